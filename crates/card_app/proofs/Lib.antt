@@ -1,0 +1,5 @@
+pub mod AskLemmas
+pub mod Numbers
+pub mod StandsLemmas
+pub mod PlainLemmas
+pub mod TagLemmas

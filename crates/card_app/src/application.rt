@@ -1,0 +1,17 @@
+// Applications, and what is kept of a connection.
+use piv_model::Interface;
+
+/// An application of the card.
+#[derive(Clone, Copy, PartialEq, Eq, Debug)]
+pub enum Application {
+    Piv,
+    Idle,
+}
+
+/// A connection: its number, its side, and the application that is selected on it.
+#[derive(Clone, Copy, Debug)]
+pub struct Channel {
+    pub c: u32,
+    pub interface: Interface,
+    pub selected: Application,
+}

@@ -1,0 +1,238 @@
+// A card with its connection.
+ghost use Rattle.std.specs.Prelude.{◌≡◌, ◌≤◌, ◌+◌, ◌-◌, ◌∷◌, take, ℕ, Bool, List, [], length, ⊤, true, false, Some, None, IsTrue, IfOk, IfErr};
+ghost use Rattle.piv_model.specs.Memory.{StoreState};
+ghost use Rattle.piv_rules.specs.Base.{Base};
+ghost use Rattle.piv_rules.specs.Acts.{Records, entries};
+ghost use Rattle.piv_rules.specs.Connections.{epoch, side};
+ghost use Rattle.piv_rules.specs.Frames.{piece_word};
+ghost use Rattle.piv_rules.specs.Legal.{opened_count};
+ghost use Rattle.piv_rules.specs.Memories.{mem};
+ghost use Rattle.card_app.specs.Serves.{served};
+
+use crate::application::{Application, Channel};
+use crate::buffer::Buffer;
+use crate::commands::execute;
+use crate::words::{BYTES_LEFT, SUCCESS};
+use piv_apdu::read_command;
+use piv_model::{Apdu, Command, Interface, Store};
+use std::alloc::Global;
+
+// The data of one command, and of one reply.
+const COMMAND_ROOM: usize = 255;
+
+const REPLY_ROOM: usize = 16400;
+
+/// Why a card isn't made. The store is handed back.
+#[derive(Drop)]
+pub enum CardFault<S> {
+    NoMemory(S),
+}
+
+/// What an exchange came to.
+#[derive(Debug, Drop)]
+pub enum Outcome<'a> {
+    /// A command was executed: the command with its data, its status word, the reply's data with
+    /// the word that is sent with them, and whether it drew a random block.
+    Call {
+        command: Command<'a>,
+        sw: u16,
+        body: &'a [u8],
+        last: u16,
+        drew: bool,
+    },
+    /// The APDU was refused with this status word, and no command was executed.
+    Bad(u16),
+}
+
+/// A card over a store.
+#[derive(Drop)]
+pub struct Card<S> {
+    store: S,
+    channel: Option<Channel>,
+    joined: Buffer,
+    reply: Buffer,
+    ghost commands_fit: { 255 ≤ joined.room },
+    ghost replies_fit: { 16400 ≤ reply.room },
+}
+
+// What an exchange came to, without what it lends.
+enum Turned {
+    Call {
+        ins: u8,
+        p1: u8,
+        p2: u8,
+        sw: u16,
+        most: usize,
+    },
+    Bad(u16),
+}
+
+impl<S: Store> Card<S> {
+    ghost use Rattle.std.specs.Borrow.{sem, follows_so};
+    ghost use mathlib.Core.Option.{none};
+    ghost use Rattle.card_app.specs.contracts.card.Card.{the_row};
+    ghost use Rattle.card_app.specs.Stands.{StandsFor, CanExchange, IsAttached, opening, exchange_by, exchange_turned, IsCalled, DrewNothing, IsShort, IsShortTurn};
+    ghost use Rattle.piv_model.specs.Commands.{apdu_of};
+
+    /// A card over a store that has power. Its buffers are reserved here; where memory is wanting the
+    /// store is handed back.
+    pub fn new(alloc: Global, store: S) -> Result<Card<S>, CardFault<S>>
+        requires { IsTrue (S.state store).on }
+        ensures stands { IfOk result (λ card. (B : Base) → B.serves ≡ served → length B.memory.objects ≡ 33
+            → (S.state store).mem ≡ Some B.memory → StandsFor S.state card B []) }
+        ensures free { IfOk result (λ card. (c : ℕ) → IsAttached card c → ⊥) }
+        ensures on { IfOk result (λ card. IsTrue (S.state card.store).on) }
+        ensures err { IfErr result (λ fault. fault ≡ CardFault.NoMemory store) }
+    {
+        let Ok(joined) = Buffer::with_room(alloc, COMMAND_ROOM) else {
+            return Err(CardFault::NoMemory(store));
+        };
+        let Ok(reply) = Buffer::with_room(alloc, REPLY_ROOM) else {
+            return Err(CardFault::NoMemory(store));
+        };
+        Ok(Card {
+            store,
+            channel: None,
+            joined,
+            reply,
+        })
+    }
+
+    /// Opens connection `c` on an interface; false where another one is attached.
+    pub fn attach(&mut self, c: u32, interface: Interface) -> bool
+        requires { IsAttached self.old c → ⊥ }
+        ensures full { (d : ℕ) → IsAttached self.old d → result ≡ false }
+        ensures free { ((d : ℕ) → IsAttached self.old d → ⊥) → result ≡ true }
+        ensures same { result ≡ false → self.new ≡ self.old }
+        ensures ready { result ≡ true → IsTrue (S.state self.old.store).on → CanExchange S.state self.new c }
+        ensures stands { result ≡ true → (B : Base) (R : Records) (shared : Bool) → StandsFor S.state self.old B R
+            → c ≡ opened_count (entries R) + 1
+            → StandsFor S.state self.new B (opening c (epoch (entries R) interface) interface shared ∷ R) }
+    {
+        if self.channel.is_some() {
+            return false;
+        }
+        self.channel = Some(Channel {
+            c,
+            interface,
+            selected: Application::Idle,
+        });
+        true
+    }
+
+    /// One APDU on connection `c`. `block` is the card's next random block.
+    pub fn exchange(&mut self, c: u32, bytes: &[u8], block: &[u8; 16]) -> Outcome<'_>
+        requires { CanExchange S.state self.old c }
+        ensures* after { sem 𝓛 (follows_so (the_row S.row) (the_row S.row) self.entry.ghost_name none (λ _ _. ⊤)
+            (λ new. CanExchange S.state new c × ((B : Base) (R : Records) (known : ℕ) → StandsFor S.state self.old B R
+            → epoch (entries R) (side (entries R) c) ≤ known
+            → StandsFor S.state new B (exchange_by c known bytes.now result ∷ R)))) }
+        ensures small { IsShort result }
+        ensures drew { DrewNothing result }
+    {
+        let _ = block;
+        let turned = self.turn(c, bytes);
+        self.outcome(turned)
+    }
+
+    // The exchange. After a call `joined` has the command's data and `reply` the reply's.
+    fn turn(&mut self, c: u32, bytes: &[u8]) -> Turned
+        requires { CanExchange S.state self.old c }
+        ensures ready { CanExchange S.state self.new c }
+        ensures small { IsShortTurn result }
+        ensures stands { (B : Base) (R : Records) (known : ℕ) → StandsFor S.state self.old B R
+            → epoch (entries R) (side (entries R) c) ≤ known
+            → StandsFor S.state self.new B (exchange_turned c known bytes.now result self.new.joined.bytes.items self.new.reply.bytes.items ∷ R) }
+    {
+        match read_command(bytes) {
+            Err(word) => Turned::Bad(word),
+            Ok(apdu) => {
+                let sw = self.call(c, apdu);
+                Turned::Call {
+                    ins: apdu.ins,
+                    p1: apdu.p1,
+                    p2: apdu.p2,
+                    sw,
+                    most: apdu.most,
+                }
+            }
+        }
+    }
+
+    // The command of an APDU that was read.
+    fn call(&mut self, c: u32, apdu: Apdu<'_>) -> u16
+        requires ready { CanExchange S.state self.old c }
+        requires small { length apdu.body.now ≤ 255 }
+        ensures called { IsCalled S.state self.old self.new c (apdu_of apdu.entry) result }
+    {
+        let command = Command {
+            ins: apdu.ins,
+            p1: apdu.p1,
+            p2: apdu.p2,
+            body: apdu.body,
+        };
+        self.joined.clear();
+        self.joined.push(command.body);
+        self.reply.clear();
+        let mut channel = self.channel.unwrap();
+        let sw = execute(&self.store, &mut channel, command, &mut self.reply);
+        self.channel = Some(channel);
+        sw
+    }
+
+    // What an exchange came to, with what it lends.
+    fn outcome(&self, turned: Turned) -> Outcome<'_>
+        requires { IsShortTurn turned }
+        ensures small { IsShort result }
+        ensures drew { DrewNothing result }
+        ensures shown { (c known : ℕ) (bytes : List ℕ) → exchange_by c known bytes result
+            ≡ exchange_turned c known bytes turned self.now.joined.bytes.items self.now.reply.bytes.items }
+    {
+        match turned {
+            Turned::Bad(word) => Outcome::Bad(word),
+            Turned::Call {
+                ins,
+                p1,
+                p2,
+                sw,
+                most,
+            } => {
+                let reply = self.reply.bytes.as_slice();
+                let (body, last) = if sw == SUCCESS {
+                    first_piece(reply, most)
+                } else {
+                    (&reply[..0], sw)
+                };
+                Outcome::Call {
+                    command: Command {
+                        ins,
+                        p1,
+                        p2,
+                        body: self.joined.bytes.as_slice(),
+                    },
+                    sw,
+                    body,
+                    last,
+                    drew: false,
+                }
+            }
+        }
+    }
+}
+
+// The first piece of a reply that was granted, with its word.
+fn first_piece(reply: &[u8], most: usize) -> (&[u8], u16)
+    ensures piece { result.0.now ≡ take most reply.now }
+    ensures word { result.1 ≡ piece_word (length reply.now - most) }
+{
+    if reply.len() <= most {
+        return (reply, SUCCESS);
+    }
+    let left = reply.len() - most;
+    let word = if left < 256 {
+        BYTES_LEFT + left as u16
+    } else {
+        BYTES_LEFT
+    };
+    (&reply[..most], word)
+}

@@ -1,0 +1,92 @@
+ghost use Rattle.std.specs.Prelude.{None, true, IsTrue};
+
+use crate::{Card, Outcome, PlainStore};
+use piv_model::{Interface, ObjectId, Store};
+use std::alloc::Global;
+use std::process::Abort;
+use std::test::Fail;
+
+const BLOCK: [u8; 16] = [0; 16];
+
+const SELECT: [u8; 16] = [
+    0x00, 0xA4, 0x04, 0x00, 0x0B, 0xA0, 0x00, 0x00, 0x03, 0x08, 0x00, 0x00, 0x10, 0x00, 0x01, 0x00,
+];
+
+const GET_CHUID: [u8; 10] = [0x00, 0xCB, 0x3F, 0xFF, 0x05, 0x5C, 0x03, 0x5F, 0xC1, 0x02];
+
+const GET_PRINTED: [u8; 10] = [0x00, 0xCB, 0x3F, 0xFF, 0x05, 0x5C, 0x03, 0x5F, 0xC1, 0x09];
+
+// A store of which nothing is told, with 300 bytes C3 at each place.
+#[derive(Clone, Copy)]
+struct LongStore;
+
+impl Store for LongStore {
+    ghost state = { λ _. record { mem = None; on = true } };
+
+    fn length(&self, _id: ObjectId) -> usize {
+        300
+    }
+
+    fn fill(&self, _id: ObjectId, out: &mut [u8]) {
+        out.fill(0xC3);
+    }
+}
+
+// What a GET DATA gives after SELECT on this side: how many bytes, and the word sent with them.
+fn get<S: Store + Drop>(
+    rt: &impl Abort,
+    alloc: Global,
+    store: S,
+    interface: Interface,
+    command: &[u8],
+) -> Result<(usize, u16), Fail>
+    requires { IsTrue (S.state store).on }
+{
+    let Ok(mut card) = Card::new(alloc, store) else {
+        return Err(Fail::from("no memory"));
+    };
+    assert!(rt; card.attach(1, interface));
+    assert!(rt;
+        matches!(
+            card.exchange(1, &SELECT, &BLOCK),
+            Outcome::Call { sw: 0x9000, .. }
+        )
+    );
+    match card.exchange(1, command, &BLOCK) {
+        Outcome::Call { body, last, .. } => Ok((body.len(), last)),
+        Outcome::Bad(word) => Ok((0, word)),
+    }
+}
+
+#[test]
+fn an_object_is_given_where_its_rule_holds(rt: HostRuntime) -> Result<(), Fail> {
+    let alloc = rt.alloc();
+    for interface in [Interface::Contact, Interface::Contactless] {
+        assert_eq!(rt;
+            get(&rt, alloc, PlainStore, interface, &GET_CHUID)?,
+            (6, 0x9000)
+        );
+        assert_eq!(rt;
+            get(&rt, alloc, PlainStore, interface, &GET_PRINTED)?,
+            (0, 0x6982)
+        );
+    }
+    Ok(())
+}
+
+#[test]
+fn a_long_reply_is_cut_to_256_bytes(rt: HostRuntime) -> Result<(), Fail> {
+    let given = get(&rt, rt.alloc(), LongStore, Interface::Contact, &GET_CHUID)?;
+    assert_eq!(rt; given, (256, 0x6130));
+    Ok(())
+}
+
+#[test]
+fn one_connection_is_attached(rt: HostRuntime) -> Result<(), Fail> {
+    let Ok(mut card) = Card::new(rt.alloc(), PlainStore) else {
+        return Err(Fail::from("no memory"));
+    };
+    assert!(rt; card.attach(1, Interface::Contact));
+    assert!(rt; !card.attach(2, Interface::Contactless));
+    Ok(())
+}

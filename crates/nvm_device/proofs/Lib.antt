@@ -1,0 +1,5 @@
+pub mod Row
+pub mod Counting
+pub mod Tearing
+pub mod Losing
+pub mod Written

@@ -1,0 +1,82 @@
+-- A device under a plan of losses: its meaning by the plan and by the device below it, and what a
+-- write makes of both. A planned loss counts beside one of the device below.
+use Rattle.std.specs.Prelude.{◌≡◌, ◌↔◌, ◌⊎◌, ℕ, ◌+◌, ◌-◌, ◌^◌, min, Bool, true, false, List, [], ◌∷◌, length, Some, None, Result, Ok, Err, IsErr}
+use Rattle.std.specs.declared.option.Option.{Option}
+use Rattle.std.specs.Option.{option_map}
+use Rattle.nvm_device.specs.declared.loss.How.{How}
+use Rattle.nvm_device.specs.Bytes.{bytes_at, overwrite}
+use Rattle.loss_words.specs.Told.{Rose}
+use Rattle.nvm_device.specs.Device.{DeviceState, written, off_at, Torn}
+use Rattle.nvm_device.specs.Losses.{PlanState, write_numbers, repeated, left_by}
+
+-- The plan's numbers are told where the inner device tells that no loss of its own comes, and has
+-- lost no write by itself.
+abbrev pub due_under : Bool → List ℕ → Option (List ℕ) → Option (List ℕ)
+due_under false due (Some []) = Some due
+due_under false due (Some (first ∷ later)) = None
+due_under false due None = None
+due_under true due told = None
+
+-- the inner device, and whether it has lost a write by itself
+pub record Below : Type 0 where
+  pub state : DeviceState
+  pub spoiled : Bool
+
+abbrev pub unspoiled : DeviceState → Below
+unspoiled s = record { state = s; spoiled = false }
+
+-- what the device under the plan means
+abbrev pub under_plan : PlanState → Below → DeviceState
+under_plan plan below = record below.state {
+  losses = min (below.state.losses + (plan.span - length plan.to_come)) (2 ^ 64 - 1);
+  span = plan.span;
+  due = due_under below.spoiled (write_numbers plan.to_come) below.state.due;
+}
+
+-- the row after a lost write of these bytes
+abbrev pub left_at : How → ℕ → List ℕ → List ℕ → List ℕ
+left_at how place bytes row =
+    overwrite row place (left_by how (bytes_at row place (length bytes)) bytes)
+
+-- the inner device at a planned loss: its range holds what the plan says, and the power is off
+pub record LeavesAsPlanned (how : How) (place : ℕ) (bytes : List ℕ) (old new : DeviceState)
+    : Type 0 where
+  pub row : new.bytes ≡ option_map (left_at how place bytes) old.bytes
+  pub others : new ≡ record old { bytes = new.bytes; on = false; due = new.due }
+  pub none_due : (old.due ≡ Some []) ↔ (new.due ≡ Some [])
+
+-- the inner device where it lost that write by itself too: any bytes stand in the range, and it
+-- counts a loss of its own
+pub record LeavesAny (place n : ℕ) (old new : DeviceState) : Type 0 where
+  pub torn : List ℕ
+  pub same_size : length torn ≡ n
+  pub row : new.bytes ≡ option_map (λ row. overwrite row place torn) old.bytes
+  pub rose : Rose old.losses new.losses
+  pub others : new ≡ off_at new.losses (record old { bytes = new.bytes; due = new.due })
+  pub was_due : old.due ≡ Some [] → ⊥
+
+-- a write that the plan loses, alone or with the inner device
+abbrev pub LosesPlanned : How → ℕ → List ℕ → Below → Below → Type 0
+LosesPlanned how place bytes old new =
+    (LeavesAsPlanned how place bytes old.state new.state × (new.spoiled ≡ old.spoiled))
+    ⊎ (LeavesAny place (length bytes) old.state new.state × (new.spoiled ≡ true))
+
+-- a write that the plan leaves to the inner device
+abbrev pub Passes : {T E : Type 0} → ℕ → List ℕ → Result T E → Below → Below → Type 0
+Passes place bytes (Ok x) old new = new ≡ record old { state = written 1 place bytes old.state }
+Passes place bytes (Err e) old new =
+    Torn place (length bytes) old.state new.state × (new.spoiled ≡ true)
+
+-- a write, by what the plan says of it
+abbrev pub WritesUnder : {T E : Type 0}
+    → Option How → ℕ → List ℕ → Result T E → Below → Below → Type 0
+WritesUnder (Some how) place bytes result old new =
+    IsErr result × LosesPlanned how place bytes old new
+WritesUnder None place bytes result old new = Passes place bytes result old new
+
+-- a device after so many bytes of a pattern were written, one by one
+pub record Tore (place n : ℕ) (pattern : List ℕ) (old new : DeviceState) : Type 0 where
+  pub row : new.bytes ≡ option_map (λ row. overwrite row place (repeated pattern n)) old.bytes
+  pub same : new ≡ record old { bytes = new.bytes; due = new.due }
+  pub forth : old.due ≡ Some [] → new.due ≡ Some []
+  pub back : new.due ≡ Some [] → old.due ≡ Some []

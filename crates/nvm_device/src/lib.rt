@@ -1,0 +1,15 @@
+//! Rows of bytes that can lose power within a write.
+#![tactic(auto)]
+
+mod device;
+mod fused;
+mod loss;
+mod memory;
+mod plan;
+#[cfg(test)]
+mod tests;
+
+pub use device::{Lost, Nvm};
+pub use fused::Fused;
+pub use loss::{How, Loss, Pattern};
+pub use memory::{MemNvm, NoMemory};

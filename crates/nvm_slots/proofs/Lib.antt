@@ -1,0 +1,4 @@
+pub mod Rows
+pub mod Replacing
+pub mod KeptLaws
+pub mod LayingLaws

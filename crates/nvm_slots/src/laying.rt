@@ -1,0 +1,23 @@
+// Bytes that are laid on a device, each piece behind those before it.
+ghost use Rattle.std.specs.Prelude.{◌≡◌, ◌+◌, ◌<◌, ◌≤◌, length, true, OnOk, OnErr};
+ghost use Rattle.loss_words.specs.Told.{LostWhereDue};
+ghost use Rattle.nvm_slots.specs.Laying.{LaysMore, LaysNoMore};
+
+use nvm_device::{Lost, Nvm};
+
+/// Writes at least one byte behind all that was laid before.
+pub fn lay<N: Nvm>(nvm: &mut N, place: usize, bytes: &[u8]) -> Result<(), Lost>
+    requires on { (N.state nvm.old).on ≡ true }
+    requires range { place + length bytes.now ≤ (N.state nvm.old).size }
+    requires some { 0 < length bytes.now }
+    ensures laid { OnOk result (LaysMore place bytes.now (N.state nvm.old) (N.state nvm.new)) }
+    ensures on { OnOk result ((N.state nvm.new).on ≡ true) }
+    ensures size { OnOk result ((N.state nvm.new).size ≡ (N.state nvm.old).size) }
+    ensures fell { OnErr result (LaysNoMore place (length bytes.now) (N.state nvm.old) (N.state nvm.new)) }
+    ensures due { LostWhereDue 1 (N.state nvm.old).due result }
+{
+    match nvm.write(place, bytes) {
+        Ok(()) => Ok(()),
+        Err(Lost) => Err(Lost),
+    }
+}

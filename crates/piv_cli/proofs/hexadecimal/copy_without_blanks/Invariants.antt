@@ -1,0 +1,7 @@
+use Rattle.std.proofs.Common.{◌≡◌, take}
+use Rattle.std.specs.Prelude.{filter}
+use Rattle.piv_cli.specs.Lines.{counts}
+use Rattle.piv_cli.proofs.hexadecimal.copy_without_blanks.Given as goal
+
+abbrev pub invariant-loop-b : goal.invariant-loop-b
+invariant-loop-b l = l.text.items ≡ filter counts (take l.b-index l.line)

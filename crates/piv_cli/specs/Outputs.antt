@@ -1,0 +1,20 @@
+-- What each command writes, and what is so when the program ends.
+use Rattle.std.specs.Prelude.{◌≡◌, ℕ, List, take, Option, Some, [], IfSome}
+use Rattle.piv_ports.specs.Ports.{with_bytes}
+use Rattle.piv_rules.specs.PlainCard.{plain_base}
+use Rattle.card_app.specs.Serves.{served}
+use Rattle.piv_cli.specs.Lines.{AreLines}
+
+-- the most bytes of an input
+abbrev pub most_input : ℕ
+most_input = 8388608
+
+-- `apdu` was answered: the input was read to its end, and what was taken is its lines' output on the plain card
+abbrev pub Answered : Option (List ℕ) → Option (List ℕ) → Option (List ℕ) → Option (List ℕ) → Type 0
+Answered left left_now taken taken_now = IfSome left (λ input.
+    (left_now ≡ Some []) × (out : List ℕ) × AreLines (plain_base served) input out × (taken_now ≡ with_bytes taken out))
+
+-- the sink failed: it took a prefix of that output
+abbrev pub AnsweredInPart : Option (List ℕ) → Option (List ℕ) → Option (List ℕ) → Type 0
+AnsweredInPart left taken taken_now = IfSome left (λ input.
+    (out : List ℕ) × (n : ℕ) × AreLines (plain_base served) input out × (taken_now ≡ with_bytes taken (take n out)))

@@ -1,0 +1,132 @@
+// What the program does, over any source and sink.
+ghost use Rattle.std.specs.Prelude.{◌≡◌, ◌≤◌, ◌<◌, ◌+◌, ◌⊎◌, ℕ, List, length, take, Some, None, is_some, IfSome};
+ghost use Rattle.piv_ports.specs.Ports.{Rises, counted, with_bytes};
+ghost use Rattle.piv_cli.specs.Outputs.{Answered, AnsweredInPart, most_input};
+ghost use Rattle.piv_cli.specs.Words.{asked_for};
+
+use crate::lines::answer_lines;
+use crate::status::Status;
+use crate::words::{Request, Words};
+use card_app::PlainStore;
+use piv_model::Limit;
+use piv_ports::{ReadStop, Sink, Source, WriteStop, read_all, write_all};
+use std::alloc::Global;
+
+const MOST_INPUT: usize = 8_388_608;
+
+/// How the program is used.
+pub const HELP: &str = "\
+usage: piv COMMAND
+
+  apdu         read command APDUs from standard input, one line of hexadecimal each,
+               and write each reply
+               piv apdu < examples/select.hex
+  --help       write this text
+  --version    write the version
+";
+
+/// Which version it is.
+pub const VERSION: &str = "piv 0.1.0\n";
+
+/// Does what the words say.
+pub fn plain<S: Source, K: Sink>(
+    alloc: Global,
+    words: &Words,
+    source: &mut S,
+    sink: &mut K,
+) -> Status
+    // What was read and written where all was done.
+    ensures apdu { result ≡ Status.Done → asked_for words.now ≡ Some Request.Apdu
+        → Answered (S.left source.old) (S.left source.new) (K.taken sink.old) (K.taken sink.new) }
+    ensures help { result ≡ Status.Done → asked_for words.now ≡ Some Request.Help
+        → K.taken sink.new ≡ with_bytes (K.taken sink.old) HELP.now }
+    ensures version { result ≡ Status.Done → asked_for words.now ≡ Some Request.Version
+        → K.taken sink.new ≡ with_bytes (K.taken sink.old) VERSION.now }
+    ensures flushed { result ≡ Status.Done → IfSome (K.flushed sink.new) (λ out. IfSome (K.taken sink.new) (λ bytes. out ≡ bytes)) }
+    ensures no_read_fault { result ≡ Status.Done → S.faults source.new ≡ S.faults source.old }
+    ensures no_write_fault { result ≡ Status.Done → K.faults sink.new ≡ K.faults sink.old }
+
+    // Each other status has its cause.
+    ensures usage { result ≡ Status.Usage → asked_for words.now ≡ None }
+    ensures usage_only { asked_for words.now ≡ None → result ≡ Status.Usage }
+    ensures too_large { result ≡ Status.TooLarge Limit.Input → IfSome (S.left source.old) (λ input. most_input < length input) }
+    ensures too_large_count { result ≡ Status.TooLarge Limit.Input → S.given source.new ≡ counted (S.given source.old) (most_input + 1) }
+    ensures small { asked_for words.now ≡ Some Request.Apdu → (result ≡ Status.Done) ⊎ (result ≡ Status.WriteFault)
+        → IfSome (S.left source.old) (λ input. length input ≤ most_input) }
+    ensures input_only { (what : Limit) → result ≡ Status.TooLarge what → what ≡ Limit.Input }
+    ensures read_fault { result ≡ Status.ReadFault → Rises (S.faults source.old) (S.faults source.new) }
+    ensures write_fault { result ≡ Status.WriteFault → Rises (K.faults sink.old) (K.faults sink.new) }
+
+    // What else is read and written.
+    ensures untouched { (result ≡ Status.Done → ⊥) → (result ≡ Status.WriteFault → ⊥) → sink.new ≡ sink.old }
+    ensures prefix { result ≡ Status.WriteFault → asked_for words.now ≡ Some Request.Apdu
+        → AnsweredInPart (S.left source.old) (K.taken sink.old) (K.taken sink.new) }
+    ensures prefix_of_help { result ≡ Status.WriteFault → asked_for words.now ≡ Some Request.Help
+        → (n : ℕ) × (K.taken sink.new ≡ with_bytes (K.taken sink.old) (take n HELP.now)) }
+    ensures prefix_of_version { result ≡ Status.WriteFault → asked_for words.now ≡ Some Request.Version
+        → (n : ℕ) × (K.taken sink.new ≡ with_bytes (K.taken sink.old) (take n VERSION.now)) }
+    ensures unread { (asked_for words.now ≡ Some Request.Apdu → ⊥) → source.new ≡ source.old }
+
+    // A command over an input that isn't too large, with ends that don't fail, is done if memory suffices.
+    ensures complete { (request : Request) (input : List ℕ) → asked_for words.now ≡ Some request
+        → S.left source.old ≡ Some input → length input ≤ most_input
+        → (Rises (S.faults source.old) (S.faults source.new) → ⊥) → (Rises (K.faults sink.old) (K.faults sink.new) → ⊥)
+        → (result ≡ Status.Done) ⊎ (result ≡ Status.NoMemory) }
+{
+    match words.request() {
+        None => Status::Usage,
+        Some(Request::Help) => write_out(sink, HELP.as_bytes()),
+        Some(Request::Version) => write_out(sink, VERSION.as_bytes()),
+        Some(Request::Apdu) => apdu(alloc, source, sink),
+    }
+}
+
+// Writes all of this, and flushes it.
+fn write_out<K: Sink>(sink: &mut K, bytes: &[u8]) -> Status
+    ensures done { result ≡ Status.Done → K.taken sink.new ≡ with_bytes (K.taken sink.old) bytes.now }
+    ensures flushed { result ≡ Status.Done → IfSome (K.flushed sink.new) (λ out. IfSome (K.taken sink.new) (λ taken. out ≡ taken)) }
+    ensures no_fault { result ≡ Status.Done → K.faults sink.new ≡ K.faults sink.old }
+    ensures fault { result ≡ Status.WriteFault → Rises (K.faults sink.old) (K.faults sink.new) }
+    ensures prefix { (n : ℕ) × (K.taken sink.new ≡ with_bytes (K.taken sink.old) (take n bytes.now)) }
+    ensures no_other { (result ≡ Status.Done) ⊎ (result ≡ Status.WriteFault) }
+{
+    match write_all(sink, bytes) {
+        Ok(()) => {}
+        Err(WriteStop::Failed) => return Status::WriteFault,
+    }
+    match sink.flush() {
+        Ok(()) => Status::Done,
+        Err(_) => Status::WriteFault,
+    }
+}
+
+// Reads lines of APDUs, and writes what the plain card replies.
+fn apdu<S: Source, K: Sink>(alloc: Global, source: &mut S, sink: &mut K) -> Status
+    ensures done { result ≡ Status.Done → Answered (S.left source.old) (S.left source.new) (K.taken sink.old) (K.taken sink.new) }
+    ensures flushed { result ≡ Status.Done → IfSome (K.flushed sink.new) (λ out. IfSome (K.taken sink.new) (λ bytes. out ≡ bytes)) }
+    ensures no_read_fault { result ≡ Status.Done → S.faults source.new ≡ S.faults source.old }
+    ensures no_write_fault { result ≡ Status.Done → K.faults sink.new ≡ K.faults sink.old }
+    ensures usage { result ≡ Status.Usage → ⊥ }
+    ensures too_large { result ≡ Status.TooLarge Limit.Input → IfSome (S.left source.old) (λ input. most_input < length input) }
+    ensures too_large_count { result ≡ Status.TooLarge Limit.Input → S.given source.new ≡ counted (S.given source.old) (most_input + 1) }
+    ensures small { (result ≡ Status.Done) ⊎ (result ≡ Status.WriteFault) → IfSome (S.left source.old) (λ input. length input ≤ most_input) }
+    ensures input_only { (what : Limit) → result ≡ Status.TooLarge what → what ≡ Limit.Input }
+    ensures read_fault { result ≡ Status.ReadFault → Rises (S.faults source.old) (S.faults source.new) }
+    ensures write_fault { result ≡ Status.WriteFault → Rises (K.faults sink.old) (K.faults sink.new) }
+    ensures untouched { (result ≡ Status.Done → ⊥) → (result ≡ Status.WriteFault → ⊥) → sink.new ≡ sink.old }
+    ensures prefix { result ≡ Status.WriteFault → AnsweredInPart (S.left source.old) (K.taken sink.old) (K.taken sink.new) }
+    ensures complete { (input : List ℕ) → S.left source.old ≡ Some input → length input ≤ most_input
+        → (Rises (S.faults source.old) (S.faults source.new) → ⊥) → (Rises (K.faults sink.old) (K.faults sink.new) → ⊥)
+        → (result ≡ Status.Done) ⊎ (result ≡ Status.NoMemory) }
+{
+    let input = match read_all(alloc, source, MOST_INPUT) {
+        Ok(input) => input,
+        Err(ReadStop::Failed) => return Status::ReadFault,
+        Err(ReadStop::TooLarge) => return Status::TooLarge { what: Limit::Input },
+        Err(ReadStop::NoMemory) => return Status::NoMemory,
+    };
+    match answer_lines(alloc, PlainStore, &input) {
+        Ok(output) => write_out(sink, &output),
+        Err(_) => Status::NoMemory,
+    }
+}

@@ -1,0 +1,4 @@
+pub mod WrittenLaws
+pub mod CipherBytes
+pub mod FieldLinear
+pub mod FieldTests

@@ -1,0 +1,10 @@
+pub mod Rules
+pub mod Objects
+pub mod Commands
+pub mod Framing
+pub mod Memory
+pub mod Rows
+pub mod Entries
+pub mod Cipher
+pub mod Field
+pub mod Written

@@ -1,0 +1,58 @@
+-- What a card's memory holds, and what is known of a store (SP 800-73-4 part 1; the budget in blocks and the
+-- losses of power are this project's own).
+use Rattle.std.specs.Prelude.{ℕ, ◌+◌, ◌/◌, Bool, true, ◌&&◌, nat_le, List, [], length, sum_by, Option, is_some, slice_index_or, unwrap_or}
+use Rattle.piv_model.specs.declared.kinds.RefId.{RefId}
+use Rattle.piv_model.specs.declared.kinds.RefId.TheVariants.{Pin, Puk, GlobalPin}
+
+-- a reference: its retry limit, the tries left, and its secret
+pub record Reference : Type 0 where
+  pub limit : ℕ
+  pub tries : ℕ
+  pub secret : List ℕ
+
+-- a key and its algorithm: 08, 0A or 0C (SP 800-78-4)
+pub record CardKey : Type 0 where
+  pub algorithm : ℕ
+  pub key : List ℕ
+
+-- what a card's memory holds. The objects stand at their places; an empty one is absent.
+pub record Memory : Type 0 where
+  pub pin : Reference
+  pub puk : Reference
+  pub global : Option Reference
+  pub admin : CardKey
+  pub card_auth : CardKey
+  pub budget : ℕ
+  pub objects : List (List ℕ)
+
+abbrev pub no_reference : Reference
+no_reference = record { limit = 0; tries = 0; secret = [] }
+
+-- whether the card has this reference
+abbrev pub has : Memory → RefId → Bool
+has m Pin = true
+has m Puk = true
+has m GlobalPin = is_some m.global
+
+-- a reference that the card has
+abbrev pub reference : Memory → RefId → Reference
+reference m Pin = m.pin
+reference m Puk = m.puk
+reference m GlobalPin = unwrap_or m.global no_reference
+
+-- the object of a place
+abbrev pub stored : Memory → ℕ → List ℕ
+stored m place = slice_index_or m.objects place []
+
+-- blocks of 64 bytes
+abbrev pub blocks : ℕ → ℕ
+blocks n = (n + 63) / 64
+
+-- there is room for one more value beside all objects present
+unfoldable pub fits : Memory → List ℕ → Bool
+fits m v = nat_le (length v) 16384 && nat_le (blocks (length v) + sum_by (λ o. blocks (length o)) m.objects) m.budget
+
+-- what is known of a store: its memory, where its device tells its bytes, and whether it has power
+pub record StoreState : Type 0 where
+  pub mem : Option Memory
+  pub on : Bool

@@ -1,0 +1,22 @@
+//! What a PIV card is: its objects, references, keys and commands, and the store that keeps them
+//! (SP 800-73-4 parts 1 and 2).
+#![tactic(auto)]
+
+mod command;
+mod history;
+#[cfg(test)]
+mod history_tests;
+mod kinds;
+mod limits;
+mod objects;
+mod store;
+mod stored;
+#[cfg(test)]
+mod tests;
+
+pub use command::{Apdu, AuthFields, Command};
+pub use history::{ActKind, Entry, History, Refusal};
+pub use kinds::{Interface, KeyId, RefId, Rule, Took, use_rule};
+pub use limits::{Limit, Where};
+pub use objects::{ObjectId, object_by_oid, object_by_tag, read_rule, tag};
+pub use store::{NoMemory, Store};

@@ -1,0 +1,58 @@
+-- The forms of the data fields of GET DATA and PUT DATA, and of the Discovery object
+-- (SP 800-73-4 part 2, GET DATA and PUT DATA, and part 1, Discovery Object).
+use Rattle.std.specs.Prelude.{◌≡◌, ◌≢◌, ◌⊎◌, ℕ, ◌≤◌, List, [], ◌∷◌, ◌++◌, length}
+use Rattle.ber_tlv.specs.Elements.{element, AreElements}
+use Rattle.piv_objects.specs.declared.put.PutFields.{PutFields}
+use Rattle.piv_objects.specs.declared.put.PutFields.TheVariants as lent
+
+-- The part stands somewhere in the bytes.
+abbrev pub IsPartOf : List ℕ → List ℕ → Type 0
+IsPartOf bytes part = (before : List ℕ) × (after : List ℕ) × (bytes ≡ before ++ part ++ after)
+
+-- the tag of an object has 1 to 3 bytes
+abbrev pub IsObjectTag : List ℕ → Type 0
+IsObjectTag tag = (1 ≤ length tag) × (length tag ≤ 3)
+
+-- GET DATA: one element 5C with the tag of an object.
+abbrev pub IsTagList : List ℕ → List ℕ → Type 0
+IsTagList bytes tag = AreElements bytes (element 0x5C tag ∷ []) × IsObjectTag tag
+
+-- what PUT DATA carries
+pub data Put : Type 0 where
+  Object : List ℕ → List ℕ → Put
+  Discovery : List ℕ → Put
+
+abbrev pub put_of : PutFields → Put
+put_of (lent.Object tag value) = Object tag.now value.now
+put_of (lent.Discovery value) = Discovery value.now
+
+-- each part stands in the bytes
+abbrev pub ArePartsOf : List ℕ → Put → Type 0
+ArePartsOf bytes (Object tag value) = IsPartOf bytes tag × IsPartOf bytes value
+ArePartsOf bytes (Discovery value) = IsPartOf bytes value
+
+-- PUT DATA: an element 5C with the tag of an object, which isn't that of Discovery, and then an
+-- element 53 with its value; or one element 7E, the Discovery object, alone.
+abbrev pub IsPut : List ℕ → Put → Type 0
+IsPut bytes (Object tag value) =
+    AreElements bytes (element 0x5C tag ∷ element 0x53 value ∷ [])
+    × IsObjectTag tag × (tag ≢ 0x7E ∷ [])
+IsPut bytes (Discovery value) = AreElements bytes (element 0x7E value ∷ [])
+
+-- the full AID of the PIV card application
+abbrev pub full_aid : List ℕ
+full_aid = 0xA0 ∷ 0x00 ∷ 0x00 ∷ 0x03 ∷ 0x08 ∷ 0x00 ∷ 0x00 ∷ 0x10 ∷ 0x00 ∷ 0x01 ∷ 0x00 ∷ []
+
+-- what stands before the policy: the full AID under 4F, and the header of 5F2F
+abbrev pub before_policy : List ℕ
+before_policy = 0x4F ∷ 0x0B ∷ full_aid ++ 0x5F ∷ 0x2F ∷ 0x02 ∷ []
+
+-- The PIN usage policy: the card's PIN alone, or with the Global PIN, of which either may be the
+-- primary one.
+abbrev pub IsPolicy : List ℕ → Type 0
+IsPolicy policy =
+    (policy ≡ 0x40 ∷ 0x00 ∷ []) ⊎ (policy ≡ 0x60 ∷ 0x10 ∷ []) ⊎ (policy ≡ 0x60 ∷ 0x20 ∷ [])
+
+-- The value of the Discovery object: the full AID, and the policy.
+abbrev pub IsDiscovery : List ℕ → List ℕ → Type 0
+IsDiscovery value policy = (value ≡ before_policy ++ policy) × IsPolicy policy

@@ -1,0 +1,4 @@
+pub mod Forms
+pub mod Templates
+pub mod Authenticators
+pub mod Connections

@@ -1,0 +1,61 @@
+//! GET DATA and the Discovery object.
+
+ghost use Rattle.std.specs.Prelude.{◌≡◌, ◌↔◌, List, ℕ, length, IsTrue, IfOk, OnErr};
+ghost use Rattle.piv_objects.specs.Forms.{IsPartOf, IsObjectTag, IsTagList, before_policy, IsDiscovery};
+
+use crate::elements::only;
+use crate::malformed::Malformed;
+
+/// The tag of an object has 1 to 3 bytes.
+fn is_object_tag(tag: &[u8]) -> bool
+    ensures { IsTrue result ↔ IsObjectTag tag.now }
+{
+    1 <= tag.len() && tag.len() <= 3
+}
+
+/// The tag of the object that GET DATA asks for: one element 5C of 1 to 3 bytes
+/// (SP 800-73-4 part 2, GET DATA).
+pub fn tag_list(body: &[u8]) -> Result<&[u8], Malformed>
+    ensures ok { IfOk result (λ tag. IsTagList body.now tag.now) }
+    ensures err { OnErr result ((tag : List ℕ) → ¬ IsTagList body.now tag) }
+    ensures lent { IfOk result (λ tag. IsPartOf body.now tag.now) }
+{
+    let tag = only(body, 0x5C)?;
+    if is_object_tag(tag) {
+        Ok(tag)
+    } else {
+        Err(Malformed)
+    }
+}
+
+/// What stands before the policy.
+const BEFORE_POLICY: [u8; 16] = [
+    0x4F, 0x0B, 0xA0, 0x00, 0x00, 0x03, 0x08, 0x00, 0x00, 0x10, 0x00, 0x01, 0x00, 0x5F, 0x2F, 0x02,
+];
+
+fn is_before_policy(front: &[u8]) -> bool
+    ensures { IsTrue result ↔ (front.now ≡ before_policy) }
+{
+    front == BEFORE_POLICY.as_slice()
+}
+
+/// The PIN usage policy of a Discovery object: 40 00, 60 10 or 60 20
+/// (SP 800-73-4 part 1, Discovery Object).
+pub fn discovery(value: &[u8]) -> Result<[u8; 2], Malformed>
+    ensures ok { IfOk result (λ policy. IsDiscovery value.now policy) }
+    ensures err { OnErr result ((policy : List ℕ) → ¬ IsDiscovery value.now policy) }
+{
+    if value.len() != 18 {
+        return Err(Malformed);
+    }
+    let (front, policy) = value.split_at(16);
+    if !is_before_policy(front) {
+        return Err(Malformed);
+    }
+    match (policy[0], policy[1]) {
+        (0x40, 0x00) => Ok([0x40, 0x00]),
+        (0x60, 0x10) => Ok([0x60, 0x10]),
+        (0x60, 0x20) => Ok([0x60, 0x20]),
+        _ => Err(Malformed),
+    }
+}

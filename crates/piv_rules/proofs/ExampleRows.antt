@@ -1,0 +1,113 @@
+-- The worked examples, computed.
+use Rattle.std.proofs.Common.{◌≡◌, ℕ, Bool, true, false, refl, ap}
+use Rattle.ber_tlv.specs.Elements.{elements_of, header_of}
+use Rattle.ber_tlv.specs.Reading.{tag_at, length_at, value_at, parts_at}
+use Rattle.piv_model.specs.Memory.{Memory}
+use Rattle.piv_model.specs.Objects.{place_of, row_at, object_table}
+use Rattle.piv_rules.specs.Forms.{is_pin}
+use Rattle.piv_rules.specs.Asks.{ask}
+use Rattle.piv_rules.specs.Memories.{tries, count_up, mem}
+use Rattle.piv_rules.specs.Answers.{answer, answer_in, answer_to}
+use Rattle.piv_rules.specs.Frames.{rest}
+use Rattle.piv_rules.specs.Plans.{cost}
+use Rattle.piv_rules.specs.PlainCard.{plain_memory}
+use Rattle.piv_rules.specs.Base.{is_valid}
+use Rattle.std.specs.Prelude.{IsTrue}
+use Rattle.piv_rules.specs.Examples.{plain, LoginOpens, IdleEndsTheLogin, WrongPinsBlock, PukUnblocks, ChangeLogsIn, WrongPukEndsTheLogin, PartsJoin, OtherHeadersAreRefused, PiecesEnd, WrongLoginLost, LossesBlock, RightLoginLost, RightLoginDone, LossesArePlanned}
+
+pub LoginOpens-row : LoginOpens
+unfolding answer answer_in answer_to mem count_up tries ask elements_of tag_at length_at value_at parts_at header_of is_pin place_of row_at object_table plain_memory
+LoginOpens-row = refl
+
+pub IdleEndsTheLogin-row : IdleEndsTheLogin
+unfolding answer answer_in answer_to mem count_up tries ask elements_of tag_at length_at value_at parts_at header_of is_pin place_of row_at object_table plain_memory
+IdleEndsTheLogin-row = refl
+
+pub WrongPinsBlock-row : WrongPinsBlock
+unfolding answer answer_in answer_to mem count_up tries ask elements_of tag_at length_at value_at parts_at header_of is_pin place_of row_at object_table plain_memory
+WrongPinsBlock-row = refl
+
+pub PukUnblocks-row : PukUnblocks
+unfolding answer answer_in answer_to mem count_up tries ask elements_of tag_at length_at value_at parts_at header_of is_pin place_of row_at object_table plain_memory
+PukUnblocks-row = refl
+
+pub ChangeLogsIn-row : ChangeLogsIn
+unfolding answer answer_in answer_to mem count_up tries ask elements_of tag_at length_at value_at parts_at header_of is_pin place_of row_at object_table plain_memory
+ChangeLogsIn-row = refl
+
+pub WrongPukEndsTheLogin-row : WrongPukEndsTheLogin
+unfolding answer answer_in answer_to mem count_up tries ask elements_of tag_at length_at value_at parts_at header_of is_pin place_of row_at object_table plain_memory
+WrongPukEndsTheLogin-row = refl
+
+pub PartsJoin-row : PartsJoin
+PartsJoin-row = (refl, refl)
+
+pub OtherHeadersAreRefused-row : OtherHeadersAreRefused
+OtherHeadersAreRefused-row = refl
+
+pub PiecesEnd-row : PiecesEnd
+unfolding rest answer answer_in answer_to mem count_up tries ask elements_of tag_at length_at value_at parts_at header_of is_pin place_of row_at object_table plain_memory
+PiecesEnd-row = (refl, refl, refl)
+
+two-three : ¬ (◌≡◌ {A = ℕ} 2 3)
+two-three e = cc
+
+three-two : ¬ (◌≡◌ {A = ℕ} 3 2)
+three-two e = cc
+
+three-one : ¬ (◌≡◌ {A = ℕ} 3 1)
+three-one e = cc
+
+false-true : ¬ (◌≡◌ {A = Bool} false true)
+false-true e = cc
+
+pub WrongLoginLost-row : WrongLoginLost
+unfolding answer answer_in answer_to mem count_up tries ask elements_of tag_at length_at value_at parts_at header_of is_pin place_of row_at object_table plain_memory
+WrongLoginLost-row =
+    ((refl, λ e. two-three (ap (λ (m : Memory). m.pin.tries) e)), (refl, tt), (λ may. false-true may.0), refl, refl)
+
+pub LossesBlock-row : LossesBlock
+unfolding answer answer_in answer_to mem count_up tries ask elements_of tag_at length_at value_at parts_at header_of is_pin place_of row_at object_table plain_memory
+LossesBlock-row = (refl, λ may. false-true may.3)
+
+pub RightLoginLost-row : RightLoginLost
+unfolding answer answer_in answer_to mem count_up tries ask elements_of tag_at length_at value_at parts_at header_of is_pin place_of row_at object_table plain_memory
+RightLoginLost-row =
+    ((refl, tt), (refl, λ e. two-three (ap (λ (m : Memory). m.pin.tries) e)), (λ may. may.1.0 refl refl), refl)
+
+pub RightLoginDone-row : RightLoginDone
+unfolding answer answer_in answer_to mem count_up tries ask elements_of tag_at length_at value_at parts_at header_of is_pin place_of row_at object_table plain_memory
+RightLoginDone-row =
+    ((refl, (λ other e. three-two (ap (λ (m : Memory). m.pin.tries) e), λ can e. three-one (ap (λ (m : Memory). m.pin.tries) e))), refl)
+
+pub LossesArePlanned-row : LossesArePlanned
+unfolding cost answer answer_in answer_to mem count_up tries ask elements_of tag_at length_at value_at parts_at header_of is_pin place_of row_at object_table plain_memory
+LossesArePlanned-row = (
+  (((((tt, tt), refl), refl), tt), refl),
+  (((((((((((tt, tt), refl), refl), tt), refl), refl), tt), refl), refl), tt), refl),
+  (λ h. false-true h.0.0.1),
+  (λ h. false-true h.0.0.1),
+  (λ h. false-true h.1),
+  refl,
+)
+
+pub plain-valid : IsTrue (is_valid plain)
+unfolding is_valid plain_memory
+plain-valid = refl
+
+pub ruleset example_rows = (
+  plain-valid,
+  LoginOpens-row,
+  IdleEndsTheLogin-row,
+  WrongPinsBlock-row,
+  PukUnblocks-row,
+  ChangeLogsIn-row,
+  WrongPukEndsTheLogin-row,
+  PartsJoin-row,
+  OtherHeadersAreRefused-row,
+  PiecesEnd-row,
+  WrongLoginLost-row,
+  LossesBlock-row,
+  RightLoginLost-row,
+  RightLoginDone-row,
+)

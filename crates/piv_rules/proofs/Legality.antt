@@ -1,0 +1,282 @@
+-- What runs is legal.
+use Rattle.std.proofs.Common.{◌≡◌, ℕ, suc, zero, ◌+◌, ◌-◌, ◌≤◌, Bool, true, false, List, [], ◌∷◌, Option, Some, None, refl, ap, arith, sym, ◌∙◌, drop, length, inl, inr}
+use Rattle.std.specs.Prelude.{if◌then◌else◌, IsTrue, ◌==◌, not, ◌&&◌, ◌||◌, take, nat_lt, slice_index}
+use Rattle.std.specs.List.{list_any}
+use Rattle.piv_model.specs.declared.history.ActKind.TheVariants as kind
+use Rattle.piv_rules.specs.StatusWords.{is_granted, is_framing_word}
+use Rattle.piv_model.specs.Commands.{CardCommand, CardApdu}
+use Rattle.piv_model.specs.Framing.{framing, after_header, apdu_with}
+use Rattle.std.specs.Prelude.{Result, Ok, Err}
+use Rattle.piv_model.specs.Entries.{CardEntry, Past, Opened, Closed, Call, Part, Rest, Bad, Reset, Cut, Up, Note}
+use Rattle.piv_rules.specs.Base.{Base}
+use Rattle.piv_rules.specs.Connections.{breaks, on, is_open, epoch, side}
+use Rattle.piv_rules.specs.Answers.{answer, Reply}
+use Rattle.piv_rules.specs.Legal.{IsLegal, IsAllowed, is_locked, is_full, is_noted, rests_after, open_ones}
+use Rattle.piv_rules.specs.Acts.{CardAct, Connect, Disconnect, Exchange, ResetSide, CutPower, PowerOn, CardAnswer, Records, entries}
+use Rattle.piv_rules.specs.Frames.{Frame, BadFrame, PartFrame, RestFrame, WholeFrame, frame, next_piece, frame_of, chained_frame, single_frame, chain, rest, rest_after, rest_with, given_length}
+use Rattle.piv_rules.specs.Turns.{IsTurnedBy, Runs, refused, IsExchanged, kind_of, cut_reply}
+use Rattle.std.proofs.Common.{length-take, length-drop, le-leb, eqb-true, subst}
+use Rattle.std.specs.Prelude.{nat_le}
+use Rattle.std.proofs.lemmas.Bool.Decides.{nat_tests}
+use Rattle.piv_model.specs.declared.history.Refusal.{Refusal}
+use Rattle.piv_model.specs.declared.history.Refusal.TheVariants as why
+
+above : (known n : ℕ) → nat_lt known n ≡ true → nat_lt 0 n ≡ true
+above known n h = grind (arith, nat_tests)
+
+-- the first of two refusals that holds
+by_first : (P : Refusal → Bool) (b : Bool) (x w : Refusal) (next : Option Refusal)
+    → (b ≡ true → P x ≡ true) → (b ≡ false → next ≡ Some w → P w ≡ true) → (if b then Some x else next) ≡ Some w → P w ≡ true
+by_first P true x w next here later h = let e : x ≡ w = cc in rw (← e) (here refl)
+by_first P false x w next here later h = later refl h
+
+none-some : (w : Refusal) (A : Type 0) → None ≡ Some w → A
+none-some w A h = absurd (cc)
+
+-- no refusal: no test holds
+none_first : (b : Bool) (x : Refusal) (next : Option Refusal) → (if b then Some x else next) ≡ None → (b ≡ false) × (next ≡ None)
+none_first true x next h = absurd (cc)
+none_first false x next h = (refl, h)
+
+not-true : (b : Bool) → not b ≡ false → b ≡ true
+not-true true h = refl
+not-true false h = absurd (cc)
+
+not-of_false : (b : Bool) → b ≡ false → not b ≡ true
+not-of_false b h = rw h
+
+both : (a b : Bool) → a ≡ true → b ≡ true → (a && b) ≡ true
+both a b h k = rw (h, k)
+
+any-weaker : (p q : ℕ → Bool) (ns : List ℕ) → list_any (λ n. p n && q n) ns ≡ true → list_any p ns ≡ true
+any-weaker p q [] h = h
+any-weaker p q (n ∷ ns) h = go (p n) (q n) (any-weaker p q ns) h
+  where
+    go : (a b : Bool) → (list_any (λ m. p m && q m) ns ≡ true → list_any p ns ≡ true)
+        → ((a && b) || list_any (λ m. p m && q m) ns) ≡ true → (a || list_any p ns) ≡ true
+    go true b rest k = refl
+    go false b rest k = rest k
+
+-- a refused act is noted rightly
+noted : (H : Past) (act : CardAct) (w : Refusal) → refused H act ≡ Some w → IsTrue (is_noted H (kind_of act) w)
+noted H (Connect i shared) w h =
+    by_first (is_noted H (kind.Connect i)) (not (on H)) why.Off w _ (λ k. k)
+    (λ is_on. by_first (is_noted H (kind.Connect i)) (is_locked H i shared) why.Locked w _
+    (λ locked. both (on H) _ (not-true (on H) is_on) (any-weaker _ _ (open_ones H) locked))
+    (λ free. by_first (is_noted H (kind.Connect i)) (is_full H) why.NoChannel w _
+    (λ full. both (on H) _ (not-true (on H) is_on) full) (λ room k. none-some w _ k))) h
+noted H (Disconnect c) w h = by_first (is_noted H (kind.Disconnect c)) (not (is_open H c)) why.NoConnection w _ (λ k. k) (λ k e. none-some w _ e) h
+noted H (Exchange c known bytes) w h =
+    by_first (is_noted H (kind.Exchange c)) (not (is_open H c)) why.NoConnection w _ (λ k. k)
+    (λ opened. by_first (is_noted H (kind.Exchange c)) (not (on H)) why.Mute w _
+    (λ off. both (is_open H c) _ (not-true (is_open H c) opened) off)
+    (λ is_on. by_first (is_noted H (kind.Exchange c)) (nat_lt known (epoch H (side H c))) why.Stale w _
+    (λ late. both (is_open H c && on H) _ (both (is_open H c) (on H) (not-true (is_open H c) opened) (not-true (on H) is_on)) (above known _ late))
+    (λ fresh k. none-some w _ k))) h
+noted H (ResetSide i) w h = by_first (is_noted H (kind.Reset i)) (not (on H)) why.Off w _ (λ k. k) (λ k e. none-some w _ e) h
+noted H CutPower w h = by_first (is_noted H kind.Cut) (not (on H)) why.Off w _ (λ k. k) (λ k e. none-some w _ e) h
+noted H PowerOn w h = by_first (is_noted H kind.Power) (on H) why.On w _ (λ k. k) (λ k e. none-some w _ e) h
+
+-- what a run of ifs gives has what each part has
+if-has : {A : Type 0} (P : A → Bool) (b : Bool) (x y : A) → P x ≡ true → P y ≡ true → P (if b then x else y) ≡ true
+if-has P true x y h k = h
+if-has P false x y h k = k
+
+-- an APDU that can be read wants some bytes, and one that can't is refused by a word of framing
+abbrev is_sound_apdu : Result CardApdu ℕ → Bool
+is_sound_apdu (Err w) = is_framing_word w
+is_sound_apdu (Ok a) = nat_lt 0 a.most
+
+abbrev is_sound_frame : Frame → Bool
+is_sound_frame (BadFrame w) = is_framing_word w
+is_sound_frame PartFrame = true
+is_sound_frame (RestFrame piece w) = nat_lt 0 (length piece)
+is_sound_frame (WholeFrame k most) = nat_lt 0 most
+
+after_header-sound : (bytes rest : List ℕ) → is_sound_apdu (after_header bytes rest) ≡ true
+after_header-sound bytes [] = refl
+after_header-sound bytes (le ∷ []) = grind (arith, nat_tests)
+after_header-sound bytes (lc ∷ b ∷ rest) = go lc (b ∷ rest)
+  where
+    go : (lc : ℕ) (rest : List ℕ) → is_sound_apdu (if lc == 0 then Err 0x6700
+        else if length rest == lc then Ok (apdu_with bytes rest)
+        else if not (length rest == lc + 1) then Err 0x6700
+        else if slice_index rest lc == 0 then Ok (apdu_with bytes (take lc rest))
+        else Err 0x6700) ≡ true
+    go lc rest = grind (arith, nat_tests)
+
+framing-sound : (bytes : List ℕ) → is_sound_apdu (framing bytes) ≡ true
+unfolding framing
+framing-sound bytes = let h = after_header-sound bytes (drop 4 bytes) in grind (arith, nat_tests)
+
+no_zero : nat_lt 0 0 ≡ true → ⊥
+no_zero h = cc
+
+next_piece-sound : (waiting : List ℕ) (most : ℕ) → nat_lt 0 most ≡ true → is_sound_frame (next_piece waiting most) ≡ true
+next_piece-sound [] most h = refl
+next_piece-sound (b ∷ bs) zero h = absurd (no_zero h)
+next_piece-sound (b ∷ bs) (suc n) h = grind (arith, nat_tests)
+
+chained-sound : (a : CardApdu) (j : CardCommand) → nat_lt 0 a.most ≡ true → is_sound_frame (chained_frame a j) ≡ true
+chained-sound a j h = grind (arith, nat_tests)
+
+single-sound : (serves : List ℕ) (a : CardApdu) (waiting : List ℕ) → nat_lt 0 a.most ≡ true
+    → is_sound_frame (next_piece waiting a.most) ≡ true
+    → is_sound_frame (single_frame serves a waiting) ≡ true
+single-sound serves a waiting h p = grind (arith, nat_tests)
+
+frame_of-sound : (serves : List ℕ) (x : Result CardApdu ℕ) (chained : Option CardCommand) (waiting : List ℕ)
+    → is_sound_apdu x ≡ true → is_sound_frame (frame_of serves x chained waiting) ≡ true
+frame_of-sound serves (Err w) chained waiting h = h
+frame_of-sound serves (Ok a) (Some j) waiting h = chained-sound a j h
+frame_of-sound serves (Ok a) None waiting h = single-sound serves a waiting h (next_piece-sound waiting a.most h)
+
+frame-sound : (B : Base) (R : Records) (c : ℕ) (bytes : List ℕ) → is_sound_frame (frame B R c bytes) ≡ true
+unfolding frame
+frame-sound B R c bytes = frame_of-sound B.serves (framing bytes) (chain R c) (rest B R c) (framing-sound bytes)
+
+-- what an entry's answer gives, at least
+abbrev Gives : Base → Past → CardEntry → ℕ → Type 0
+Gives B G (Rest d) n = 1 ≤ n
+Gives B G (Call d k word block) n = is_granted word ≡ true → 1 ≤ length (answer B G d k).body → 1 ≤ n
+Gives B G _ n = Unit {0}
+
+positive : (n : ℕ) → nat_lt 0 n ≡ true → 1 ≤ n
+positive n h = grind (arith, nat_tests)
+
+cut-gives : (r : Reply) (most : ℕ) → nat_lt 0 most ≡ true → is_granted r.word ≡ true → 1 ≤ length r.body → 1 ≤ given_length (cut_reply r most)
+cut-gives r most h g long = rw g (rw (length-take most r.body) (let p = positive most h in omega arith))
+
+Gives-exchanged : (B : Base) (H : Past) (c : ℕ) (f : Frame) (e : CardEntry) (a : CardAnswer) → is_sound_frame f ≡ true
+    → IsExchanged B H c f e a → Gives B H e (given_length a)
+Gives-exchanged B H c (BadFrame w) e a s t = rw t.0 tt
+Gives-exchanged B H c PartFrame e a s t = rw t.0 tt
+Gives-exchanged B H c (RestFrame piece w) e a s t = rw (t.0, t.1) (positive (length piece) s)
+Gives-exchanged B H c (WholeFrame k most) e a s (inl t) = rw (t.0, t.1) (λ g long. cut-gives (answer B H c k) most s g long)
+Gives-exchanged B H c (WholeFrame k most) e a s (inr t) = rw t.0 tt
+
+Gives-turned : (B : Base) (R : Records) (act : CardAct) (e : CardEntry) (a : CardAnswer) (o : Option Refusal)
+    → IsTurnedBy o B R act e a → Gives B (entries R) e (given_length a)
+Gives-turned B R act e a (Some w) t = rw t.0 tt
+Gives-turned B R (Connect i shared) e a None t = rw t.0 tt
+Gives-turned B R (Disconnect c) e a None t = rw t.0 tt
+Gives-turned B R (Exchange c known bytes) e a None t = Gives-exchanged B (entries R) c (frame B R c bytes) e a (frame-sound B R c bytes) t
+Gives-turned B R (ResetSide i) e a None t = rw t.0 tt
+Gives-turned B R CutPower e a None t = rw t.0 tt
+Gives-turned B R PowerOn e a None (t, m, is_up, told) = rw is_up tt
+
+-- where data are left after n bytes, the connection's last Call gave more than that
+enough : (m n g : ℕ) (body xs : List ℕ) (x : ℕ) → (1 ≤ length body → 1 ≤ g) → m ≤ n → drop (g + n) body ≡ x ∷ xs → nat_le (m + 2) (length body) ≡ true
+enough m n g body xs x gives le h =
+    let left : length body - (g + n) ≡ suc (length xs) = sym (length-drop (g + n) body) ∙ ap length h in
+    let there : 1 ≤ length body = omega arith in
+    let given_one = gives there in
+    le-leb (m + 2) (length body) (omega arith)
+
+Waits : Base → Past → ℕ → (ℕ → List ℕ) → Type 0
+Waits B G c before = (n m x : ℕ) (xs : List ℕ) → m ≤ n → before n ≡ x ∷ xs → rests_after B G c m ≡ true
+
+no-data : (x : ℕ) (xs : List ℕ) (A : Type 0) → ◌≡◌ {A = List ℕ} [] (x ∷ xs) → A
+no-data x xs A h = absurd (cc)
+
+-- either nothing waits, or what was there before still waits
+either : (b : Bool) (x : ℕ) (xs before : List ℕ) (r : Bool) → (before ≡ x ∷ xs → r ≡ true)
+    → (if b then [] else before) ≡ x ∷ xs → (if b then false else r) ≡ true
+either true x xs before r h k = no-data x xs _ k
+either false x xs before r h k = h k
+
+waits-with : (B : Base) (e : CardEntry) (g : ℕ) (G : Past) (c : ℕ) (before : ℕ → List ℕ) → Gives B G e g
+    → ((n m x : ℕ) (xs : List ℕ) → m ≤ n → before n ≡ x ∷ xs → rests_after B G c m ≡ true)
+    → (n m x : ℕ) (xs : List ℕ) → m ≤ n → rest_with B e g G c n before ≡ x ∷ xs → rests_after B (e ∷ G) c m ≡ true
+waits-with B (Call d k word block) g G c before gives ih n m x xs le h = own (d == c) refl h
+  where
+    data_left : (b : Bool) → is_granted word ≡ b → d ≡ c → (if b then drop (g + n) (answer B G c k).body else []) ≡ x ∷ xs
+        → (b && nat_le (m + 2) (length (answer B G c k).body)) ≡ true
+    data_left true is same j =
+        enough m n g (answer B G c k).body xs x (let P : ℕ → Type 0 = λ j. 1 ≤ length (answer B G j k).body → 1 ≤ g in subst P same (gives is)) le j
+    data_left false is same j = no-data x xs _ j
+
+    own : (b : Bool) → (d == c) ≡ b
+        → (if b then (if is_granted word then drop (g + n) (answer B G c k).body else []) else before n) ≡ x ∷ xs
+        → (if b then is_granted word && nat_le (m + 2) (length (answer B G c k).body) else rests_after B G c m) ≡ true
+    own true is j = data_left (is_granted word) refl (eqb-true d c is) j
+    own false is j = ih n m x xs le j
+waits-with B (Rest d) g G c before gives ih n m x xs le h = go (d == c) h
+  where
+    go : (b : Bool) → (if b then before (g + n) else before n) ≡ x ∷ xs → (if b then rests_after B G c (m + 1) else rests_after B G c m) ≡ true
+    go true k = ih (g + n) (m + 1) x xs (omega (arith, gives)) k
+    go false k = ih n m x xs le k
+waits-with B (Part d) g G c before gives ih n m x xs le h = either (d == c) x xs (before n) _ (ih n m x xs le) h
+waits-with B (Bad d word) g G c before gives ih n m x xs le h = either (d == c) x xs (before n) _ (ih n m x xs le) h
+waits-with B (Opened d i shared) g G c before gives ih n m x xs le h = either (breaks c G (Opened d i shared)) x xs (before n) _ (ih n m x xs le) h
+waits-with B (Closed d) g G c before gives ih n m x xs le h = ih n m x xs le h
+waits-with B (Reset i) g G c before gives ih n m x xs le h = either (breaks c G (Reset i)) x xs (before n) _ (ih n m x xs le) h
+waits-with B (Cut running) g G c before gives ih n m x xs le h = no-data x xs _ h
+waits-with B (Up took) g G c before gives ih n m x xs le h = ih n m x xs le h
+waits-with B (Note act w) g G c before gives ih n m x xs le h = ih n m x xs le h
+
+waits : (B : Base) (R : Records) (c : ℕ) → Runs B R → (n m x : ℕ) (xs : List ℕ) → m ≤ n → rest_after B R c n ≡ x ∷ xs
+    → rests_after B (entries R) c m ≡ true
+waits B [] c runs n m x xs le h = no-data x xs _ h
+waits B (r ∷ R) c runs n m x xs le h =
+    waits-with B r.entry (given_length r.answer) (entries R) c (rest_after B R c)
+    (Gives-turned B R r.act r.entry r.answer (refused (entries R) r.act) runs.1) (waits B R c runs.0) n m x xs le h
+
+abbrev is_rest : Frame → Bool
+is_rest (RestFrame piece w) = true
+is_rest _ = false
+
+no-rest_chained : (a : CardApdu) (j : CardCommand) → is_rest (chained_frame a j) ≡ false
+no-rest_chained a j = grind (arith, nat_tests)
+
+no-rest_single : (serves : List ℕ) (a : CardApdu) → is_rest (single_frame serves a []) ≡ false
+no-rest_single serves a = grind (arith, nat_tests)
+
+no-rest : (serves : List ℕ) (x : Result CardApdu ℕ) (chained : Option CardCommand) → is_rest (frame_of serves x chained []) ≡ false
+no-rest serves (Err w) chained = refl
+no-rest serves (Ok a) (Some j) = no-rest_chained a j
+no-rest serves (Ok a) None = no-rest_single serves a
+
+-- where a piece is given, data waited
+rests-of_frame : (B : Base) (R : Records) (c : ℕ) (bytes piece : List ℕ) (w : ℕ) → frame B R c bytes ≡ RestFrame piece w → Runs B R
+    → rests_after B (entries R) c 0 ≡ true
+unfolding frame rest
+rests-of_frame B R c bytes piece w h runs = go (rest_after B R c 0) refl h
+  where
+    go : (ws : List ℕ) → rest_after B R c 0 ≡ ws → frame_of B.serves (framing bytes) (chain R c) ws ≡ RestFrame piece w → rests_after B (entries R) c 0 ≡ true
+    go [] e k = absurd (let p = ap is_rest k in let q = no-rest B.serves (framing bytes) (chain R c) in cc)
+    go (x ∷ xs) e k = waits B R c runs 0 0 x xs (omega arith) e
+
+-- an exchange that reaches the card
+IsAllowed-exchanged : (B : Base) (R : Records) (c most : ℕ) (bytes : List ℕ) (f : Frame) (e : CardEntry) (a : CardAnswer)
+    → frame B R c bytes ≡ f → on (entries R) ≡ true → is_open (entries R) c ≡ true → Runs B R
+    → IsExchanged B (entries R) c f e a → IsAllowed B (entries R) e
+IsAllowed-exchanged B R c most bytes (BadFrame w) e a h is_on opened runs t = rw t.0 (is_on, opened, rw h at (frame-sound B R c bytes))
+IsAllowed-exchanged B R c most bytes PartFrame e a h is_on opened runs t = rw t.0 (is_on, opened)
+IsAllowed-exchanged B R c most bytes (RestFrame piece w) e a h is_on opened runs t = rw t.0 (is_on, opened, rests-of_frame B R c bytes piece w h runs)
+IsAllowed-exchanged B R c most bytes (WholeFrame k wanted) e a h is_on opened runs (inl t) = rw t.0 (is_on, opened, refl, refl)
+IsAllowed-exchanged B R c most bytes (WholeFrame k wanted) e a h is_on opened runs (inr t) = t.1
+
+pub IsAllowed-turned : (B : Base) (R : Records) (act : CardAct) (e : CardEntry) (a : CardAnswer) (o : Option Refusal) → refused (entries R) act ≡ o → Runs B R
+    → IsTurnedBy o B R act e a → IsAllowed B (entries R) e
+IsAllowed-turned B R act e a (Some w) h runs t = rw t.0 (noted (entries R) act w h)
+IsAllowed-turned B R (Connect i shared) e a None h runs t =
+    let p = none_first (not (on (entries R))) why.Off _ h in
+    let q = none_first (is_locked (entries R) i shared) why.Locked _ p.1 in
+    let r = none_first (is_full (entries R)) why.NoChannel _ q.1 in
+    rw t.0 (not-true (on (entries R)) p.0, refl, not-of_false _ r.0, not-of_false _ q.0)
+IsAllowed-turned B R (Disconnect c) e a None h runs t = rw t.0 (not-true (is_open (entries R) c) (none_first (not (is_open (entries R) c)) why.NoConnection _ h).0)
+IsAllowed-turned B R (Exchange c known bytes) e a None h runs t =
+    let p = none_first (not (is_open (entries R) c)) why.NoConnection _ h in
+    let q = none_first (not (on (entries R))) why.Mute _ p.1 in
+    IsAllowed-exchanged B R c 0 bytes (frame B R c bytes) e a refl (not-true (on (entries R)) q.0) (not-true (is_open (entries R) c) p.0) runs t
+IsAllowed-turned B R (ResetSide i) e a None h runs t = rw t.0 (not-true (on (entries R)) (none_first (not (on (entries R))) why.Off _ h).0)
+IsAllowed-turned B R CutPower e a None h runs t = rw t.0 (not-true (on (entries R)) (none_first (not (on (entries R))) why.Off _ h).0)
+IsAllowed-turned B R PowerOn e a None h runs (t, m, is_up, told) = rw is_up (not-of_false _ (none_first (on (entries R)) why.On _ h).0, m)
+
+-- every run's history is legal
+pub IsLegal-runs : (B : Base) (R : Records) → Runs B R → IsLegal B (entries R)
+IsLegal-runs B [] h = tt
+IsLegal-runs B (r ∷ R) h = (IsLegal-runs B R h.0, IsAllowed-turned B R r.act r.entry r.answer (refused (entries R) r.act) refl h.0 h.1)
+
+pub ruleset legality_laws = (IsLegal-runs)

@@ -1,0 +1,180 @@
+-- A command is served by its rule alone.
+use Rattle.std.proofs.Common.{◌≡◌, ◌≤◌, ℕ, ◌-◌, Bool, true, false, List, [], ◌∷◌, Option, Some, None, refl, ap, sym, ◌∙◌, arith, unwrap_or, eqb-true, inl, inr}
+use Rattle.std.specs.Prelude.{if◌then◌else◌, ◌==◌, not, ◌&&◌, ◌||◌, ◌⊎◌}
+use Rattle.std.proofs.lemmas.Bool.Decides.{nat_tests}
+use Rattle.piv_model.specs.declared.kinds.Interface.{Interface}
+use Rattle.piv_model.specs.declared.kinds.Interface.TheVariants.{Contact, Contactless}
+use Rattle.piv_model.specs.declared.kinds.Rule.{Rule}
+use Rattle.piv_model.specs.declared.kinds.Rule.TheVariants as rule
+use Rattle.piv_model.specs.declared.kinds.RefId.{RefId}
+use Rattle.piv_model.specs.Commands.{CardCommand}
+use Rattle.piv_model.specs.Entries.{CardEntry, Past, Opened, Closed, Call, Part, Rest, Bad, Reset, Cut, Up, Note}
+use Rattle.piv_model.specs.Memory.{Memory, reference}
+use Rattle.piv_rules.specs.StatusWords.{is_granted, tries_word}
+use Rattle.piv_rules.specs.Base.{Base, profile}
+use Rattle.piv_rules.specs.Asks.{Ask, Refused, Query, Compare, ask}
+use Rattle.piv_rules.specs.Connections.{side, breaks, by_call}
+use Rattle.piv_rules.specs.Logins.{Login, PinLogin, GlobalLogin, AdminLogin, login_after, in_force}
+use Rattle.piv_rules.specs.Memories.{mem}
+use Rattle.piv_rules.specs.Answers.{Situation, situation, Reply, only, answer, answer_in, answer_to, holds, rule_of, is_contact, is_refused, refusal_word, is_wrong, is_blocked, differs, lacks_pending, asks_unknown_login, is_absent, has_no_room, tries_left, global_counts, data_of}
+use Rattle.piv_rules.proofs.Limits.{few-tries}
+use Rattle.piv_rules.specs.HistoryLaws.{IsLoggedIn, IsEntitled, UsesAreEntitled, EntitledAreServed}
+
+-- ---- logins
+
+-- one entry more that breaks nothing
+logged_in-more : (B : Base) (H : Past) (c : ℕ) (x : Login) (e : CardEntry) → breaks c H e ≡ false
+    → by_call (profile B) c (login_after x) e ≡ None → IsLoggedIn B H c x → IsLoggedIn B (e ∷ H) c x
+logged_in-more B H c x e unbroken quiet l = record {
+  since = e ∷ l.since;
+  before = l.before;
+  command = l.command;
+  word = l.word;
+  block = l.block;
+  whole = ap (λ G. e ∷ G) l.whole;
+  sets = l.sets;
+  untouched = rw quiet l.untouched;
+  unbroken = rw (← l.whole, unbroken) l.unbroken;
+}
+
+logged_in-now : (B : Base) (H : Past) (c d : ℕ) (k : CardCommand) (word : ℕ) (block : Option (List ℕ)) (x : Login) → d ≡ c
+    → login_after x (ask (profile B) k) word block ≡ Some true → IsLoggedIn B (Call d k word block ∷ H) c x
+logged_in-now B H c d k word block x same sets = record {
+  since = [];
+  before = H;
+  command = k;
+  word = word;
+  block = block;
+  whole = ap (λ n. Call n k word block ∷ H) same;
+  sets = sets;
+  untouched = refl;
+  unbroken = refl;
+}
+
+by-call : (B : Base) (H : Past) (c : ℕ) (x : Login) (e : CardEntry) → breaks c H e ≡ false → (in_force B H c x ≡ true → IsLoggedIn B H c x)
+    → unwrap_or (by_call (profile B) c (login_after x) e) (in_force B H c x) ≡ true → IsLoggedIn B (e ∷ H) c x
+by-call B H c x (Call d k word block) unbroken ih h = own (d == c) refl h
+  where
+    said : (o : Option Bool) → (d == c) ≡ true → login_after x (ask (profile B) k) word block ≡ o → unwrap_or o (in_force B H c x) ≡ true
+        → IsLoggedIn B (Call d k word block ∷ H) c x
+    said None same e j = logged_in-more B H c x (Call d k word block) unbroken (rw (same, e) refl) (ih j)
+    said (Some true) same e j = logged_in-now B H c d k word block x (eqb-true d c same) e
+    said (Some false) same e j = absurd (cc)
+
+    own : (b : Bool) → (d == c) ≡ b
+        → unwrap_or (if b then login_after x (ask (profile B) k) word block else None) (in_force B H c x) ≡ true
+        → IsLoggedIn B (Call d k word block ∷ H) c x
+    own true is j = said (login_after x (ask (profile B) k) word block) is refl j
+    own false is j = logged_in-more B H c x (Call d k word block) unbroken (rw is refl) (ih j)
+by-call B H c x (Opened d i shared) unbroken ih h = logged_in-more B H c x _ unbroken refl (ih h)
+by-call B H c x (Closed d) unbroken ih h = logged_in-more B H c x _ unbroken refl (ih h)
+by-call B H c x (Part d) unbroken ih h = logged_in-more B H c x _ unbroken refl (ih h)
+by-call B H c x (Rest d) unbroken ih h = logged_in-more B H c x _ unbroken refl (ih h)
+by-call B H c x (Bad d word) unbroken ih h = logged_in-more B H c x _ unbroken refl (ih h)
+by-call B H c x (Reset i) unbroken ih h = logged_in-more B H c x _ unbroken refl (ih h)
+by-call B H c x (Cut r) unbroken ih h = logged_in-more B H c x _ unbroken refl (ih h)
+by-call B H c x (Up t) unbroken ih h = logged_in-more B H c x _ unbroken refl (ih h)
+by-call B H c x (Note a w) unbroken ih h = logged_in-more B H c x _ unbroken refl (ih h)
+
+-- a login in force was set by a Call of c, and nothing broke c since
+pub logged_in : (B : Base) (H : Past) (c : ℕ) (x : Login) → in_force B H c x ≡ true → IsLoggedIn B H c x
+logged_in B [] c x h = absurd (cc)
+logged_in B (e ∷ H) c x h = go (breaks c H e) refl (logged_in B H c x) h
+  where
+    go : (b : Bool) → breaks c H e ≡ b → (in_force B H c x ≡ true → IsLoggedIn B H c x)
+        → unwrap_or (if b then Some false else by_call (profile B) c (login_after x) e) (in_force B H c x) ≡ true → IsLoggedIn B (e ∷ H) c x
+    go true is ih j = absurd (cc)
+    go false is ih j = by-call B H c x e is ih j
+
+-- ---- rules
+
+contact : (i : Interface) → is_contact i ≡ true → i ≡ Contact
+contact Contact h = refl
+contact Contactless h = absurd (cc)
+
+and-first : (a b : Bool) → (a && b) ≡ true → a ≡ true
+and-first true b h = refl
+and-first false b h = absurd (cc)
+
+and-last : (a b : Bool) → (a && b) ≡ true → b ≡ true
+and-last true b h = h
+and-last false b h = absurd (cc)
+
+or-either : (a b : Bool) → (a || b) ≡ true → (a ≡ true) ⊎ (b ≡ true)
+or-either true b h = inl refl
+or-either false b h = inr h
+
+pin_entitled : (B : Base) (H : Past) (c : ℕ)
+    → (in_force B H c PinLogin ≡ true) ⊎ ((in_force B H c GlobalLogin && global_counts (mem B H)) ≡ true)
+    → IsLoggedIn B H c PinLogin ⊎ (IsLoggedIn B H c GlobalLogin × (global_counts (mem B H) ≡ true))
+pin_entitled B H c (inl h) = inl (logged_in B H c PinLogin h)
+pin_entitled B H c (inr h) = inr (logged_in B H c GlobalLogin (and-first _ _ h), and-last (in_force B H c GlobalLogin) _ h)
+
+entitled-holds : (B : Base) (H : Past) (c : ℕ) (r : Rule) → holds (situation B H c) r ≡ true → IsEntitled B H c r
+entitled-holds B H c rule.Always h = tt
+entitled-holds B H c rule.ContactUse h = contact (side H c) h
+entitled-holds B H c rule.Pin h =
+    (contact (side H c) (and-first _ _ h), pin_entitled B H c (or-either (in_force B H c PinLogin) _ (and-last (is_contact (side H c)) _ h)))
+entitled-holds B H c rule.Admin h =
+    (contact (side H c) (and-first _ _ h), logged_in B H c AdminLogin (and-last (is_contact (side H c)) _ h))
+entitled-holds B H c rule.Never h = absurd (cc)
+entitled-holds B H c rule.Response h = absurd (cc)
+
+-- ---- answers
+
+refused-holds : (s : Situation) (a : Ask) → is_refused a ≡ true → holds s (rule_of s.interface a) ≡ true
+refused-holds s (Refused w) h = refl
+refused-holds s a h = absurd (cc)
+
+-- what is granted had its rule
+granted-holds : (s : Situation) (a : Ask) → is_granted (answer_to s a).word ≡ true → holds s (rule_of s.interface a) ≡ true
+unfolding answer_to
+granted-holds s a h = go s.piv (is_refused a) (holds s (rule_of s.interface a)) (refused-holds s a) h
+  where
+    go : (piv refused held : Bool) → (refused ≡ true → held ≡ true)
+        → is_granted (if not piv then only 0x6D00 else if refused then only (refusal_word a) else if not held then only 0x6982
+        else if lacks_pending s.pending a then only 0x6A80
+        else if is_wrong s.memory.admin s.pending a then only 0x6982
+        else if is_blocked s.memory a then only 0x6983
+        else if differs s.memory a then only (tries_word (tries_left s.memory a - 1))
+        else if asks_unknown_login s a then only (tries_word (tries_left s.memory a))
+        else if is_absent s.memory a then only 0x6A82
+        else if has_no_room s.memory a then only 0x6A84
+        else record { word = 0x9000; body = data_of s a }).word ≡ true → held ≡ true
+    go false r held f j = absurd (cc)
+    go true true held f j = f refl
+    go true false true f j = refl
+    go true false false f j = absurd (cc)
+
+pub UsesAreEntitled-law : UsesAreEntitled
+unfolding answer answer_in
+UsesAreEntitled-law B H c k word block legal granted other =
+    let is_word : word ≡ (answer_to (situation B H c) (ask (profile B) k)).word = rw other at legal.1.2 in
+    entitled-holds B H c _ (granted-holds (situation B H c) (ask (profile B) k) (sym (ap is_granted is_word) ∙ granted))
+
+-- where the rule holds, 69 82 is the word of a wrong response
+wrong-only : (piv lacks wrong blocked unequal unknown absent full : Bool) (n : ℕ) (last : Reply) → n ≤ 15 → last.word ≡ 0x9000
+    → (if not piv then only 0x6D00
+    else if lacks then only 0x6A80
+    else if wrong then only 0x6982
+    else if blocked then only 0x6983
+    else if unequal then only (tries_word (n - 1))
+    else if unknown then only (tries_word n)
+    else if absent then only 0x6A82
+    else if full then only 0x6A84
+    else last).word ≡ 0x6982 → wrong ≡ true
+wrong-only piv lacks wrong blocked unequal unknown absent full n last few is h = grind (arith, nat_tests)
+
+few-left : (m : Memory) (a : Ask) → ((r : RefId) → (reference m r).tries ≤ 15) → tries_left m a ≤ 15
+few-left m (Compare r p purpose) few = few r
+few-left m (Query r) few = few r
+few-left m a few = omega arith
+
+pub EntitledAreServed-law : EntitledAreServed
+unfolding answer answer_in answer_to
+EntitledAreServed-law B H c k valid other formed held h =
+    wrong-only (situation B H c).piv _ _ _ _ _ _ _ (tries_left (mem B H) (ask (profile B) k))
+    (record { word = 0x9000; body = data_of (situation B H c) (ask (profile B) k) })
+    (few-left (mem B H) (ask (profile B) k) (few-tries B H valid)) refl (rw (other, formed, held) at h)
+
+pub ruleset use_laws = (UsesAreEntitled-law, EntitledAreServed-law)

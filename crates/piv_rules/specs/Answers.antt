@@ -1,0 +1,221 @@
+-- The answer to a command, whose status word and data are read off an ordered table: the first line that fits decides
+-- (SP 800-73-4 part 1, access rules; part 2, the commands of the card edge; the order of the lines is this project's own).
+use Rattle.std.specs.Prelude.{ℕ, ◌-◌, Bool, true, false, not, ◌&&◌, ◌||◌, ◌==◌, List, [], ◌∷◌, length, slice_index, if◌then◌else◌}
+use Rattle.std.specs.Str.{bytes_eq}
+use Rattle.ber_tlv.specs.Elements.{spell}
+use Rattle.piv_model.specs.declared.kinds.Interface.{Interface}
+use Rattle.piv_model.specs.declared.kinds.Interface.TheVariants.{Contact, Contactless}
+use Rattle.piv_model.specs.declared.kinds.Rule.{Rule}
+use Rattle.piv_model.specs.declared.kinds.Rule.TheVariants as rule
+use Rattle.piv_model.specs.declared.kinds.RefId.{RefId}
+use Rattle.piv_model.specs.declared.kinds.RefId.TheVariants.{Pin, Puk, GlobalPin}
+use Rattle.piv_model.specs.declared.kinds.KeyId.TheVariants.{AdminKey, CardAuth}
+use Rattle.piv_model.specs.Commands.{CardCommand}
+use Rattle.piv_model.specs.Entries.{Past}
+use Rattle.piv_model.specs.Memory.{Memory, CardKey, reference, stored, fits}
+use Rattle.piv_model.specs.Objects.{read_rule_of}
+use Rattle.piv_model.specs.Rules.{use_rule_of}
+use Rattle.piv_model.specs.Cipher.{encipher}
+use Rattle.piv_rules.specs.StatusWords.{tries_word}
+use Rattle.piv_rules.specs.Base.{Base, Profile, profile}
+use Rattle.piv_rules.specs.Asks.{Ask, Refused, Select, Get, Put, Logout, Query, Compare, Internal, AskChallenge, External, AskWitness, Mutual, Piv, Idle, ask}
+use Rattle.piv_rules.specs.Connections.{side, selected}
+use Rattle.piv_rules.specs.Logins.{PinLogin, GlobalLogin, AdminLogin, in_force, Pending, NonePending, Challenge, Witness, pending}
+use Rattle.piv_rules.specs.Memories.{mem}
+use Rattle.piv_rules.specs.RandomBlocks.{next_block}
+
+-- what an answer depends on, beside the command: the connection's interface, whether PIV is selected, its logins, its
+-- pending block, the card's next block and its memory
+pub record Situation : Type 0 where
+  pub interface : Interface
+  pub piv : Bool
+  pub pin : Bool
+  pub global : Bool
+  pub admin : Bool
+  pub pending : Pending
+  pub next : List ℕ
+  pub memory : Memory
+
+abbrev pub situation : Base → Past → ℕ → Situation
+situation B H c = record {
+  interface = side H c;
+  piv = selected B H c;
+  pin = in_force B H c PinLogin;
+  global = in_force B H c GlobalLogin;
+  admin = in_force B H c AdminLogin;
+  pending = pending B H c;
+  next = next_block B H;
+  memory = mem B H;
+}
+
+pub record Reply : Type 0 where
+  pub word : ℕ
+  pub body : List ℕ
+
+-- a word without data
+abbrev pub only : ℕ → Reply
+only w = record { word = w; body = [] }
+
+abbrev pub is_contact : Interface → Bool
+is_contact Contact = true
+is_contact Contactless = false
+
+-- the Global PIN counts: the Discovery Object is present and the first byte of its policy is 60
+abbrev pub global_counts : Memory → Bool
+global_counts m = slice_index (stored m 10) 16 == 0x60
+
+-- an access rule holds
+abbrev pub holds : Situation → Rule → Bool
+holds s rule.Always = true
+holds s rule.Pin = is_contact s.interface && (s.pin || (s.global && global_counts s.memory))
+holds s rule.Never = false
+holds s rule.Admin = is_contact s.interface && s.admin
+holds s rule.ContactUse = is_contact s.interface
+holds s rule.Response = false
+
+-- the rule that an ask needs
+abbrev pub rule_of : Interface → Ask → Rule
+rule_of i (Get id) = read_rule_of id i
+rule_of i (Put id v) = rule.Admin
+rule_of i (Logout r) = rule.ContactUse
+rule_of i (Query r) = rule.ContactUse
+rule_of i (Compare r p purpose) = rule.ContactUse
+rule_of i AskChallenge = use_rule_of AdminKey
+rule_of i (External x) = use_rule_of AdminKey
+rule_of i AskWitness = use_rule_of AdminKey
+rule_of i (Mutual w x) = use_rule_of AdminKey
+rule_of i (Internal x) = use_rule_of CardAuth
+rule_of i (Refused w) = rule.Always
+rule_of i (Select a) = rule.Always
+
+-- the status of a reference; the PUK has none
+abbrev pub status : Situation → RefId → Bool
+status s Pin = s.pin
+status s GlobalPin = s.global
+status s Puk = false
+
+-- the tests of the lines
+abbrev pub is_refused : Ask → Bool
+is_refused (Refused w) = true
+is_refused _ = false
+
+abbrev pub refusal_word : Ask → ℕ
+refusal_word (Refused w) = w
+refusal_word _ = 0
+
+abbrev pub is_challenge : Pending → Bool
+is_challenge (Challenge block) = true
+is_challenge (Witness block) = false
+is_challenge NonePending = false
+
+abbrev pub is_witness : Pending → Bool
+is_witness (Witness block) = true
+is_witness (Challenge block) = false
+is_witness NonePending = false
+
+abbrev pub lacks_pending : Pending → Ask → Bool
+lacks_pending p (External x) = not (is_challenge p)
+lacks_pending p (Mutual w x) = not (is_witness p)
+lacks_pending p _ = false
+
+-- E of a block under a key
+abbrev pub enciphered : CardKey → List ℕ → List ℕ
+enciphered key block = encipher key.key block
+
+abbrev pub is_wrong_response : CardKey → List ℕ → Pending → Bool
+is_wrong_response key x (Challenge block) = not (bytes_eq x (enciphered key block))
+is_wrong_response key x _ = false
+
+abbrev pub is_wrong_witness : List ℕ → Pending → Bool
+is_wrong_witness w (Witness block) = not (bytes_eq w block)
+is_wrong_witness w _ = false
+
+abbrev pub is_wrong : CardKey → Pending → Ask → Bool
+is_wrong key p (External x) = is_wrong_response key x p
+is_wrong key p (Mutual w x) = is_wrong_witness w p
+is_wrong key p _ = false
+
+abbrev pub is_blocked : Memory → Ask → Bool
+is_blocked m (Compare r p purpose) = (reference m r).tries == 0
+is_blocked m _ = false
+
+abbrev pub differs : Memory → Ask → Bool
+differs m (Compare r p purpose) = not (bytes_eq p (reference m r).secret)
+differs m _ = false
+
+abbrev pub asks_unknown_login : Situation → Ask → Bool
+asks_unknown_login s (Query r) = not (status s r)
+asks_unknown_login s _ = false
+
+abbrev pub is_absent : Memory → Ask → Bool
+is_absent m (Get id) = length (stored m id) == 0
+is_absent m _ = false
+
+abbrev pub has_no_room : Memory → Ask → Bool
+has_no_room m (Put id v) = not (fits m v)
+has_no_room m _ = false
+
+abbrev pub tries_left : Memory → Ask → ℕ
+tries_left m (Compare r p purpose) = (reference m r).tries
+tries_left m (Query r) = (reference m r).tries
+tries_left m _ = 0
+
+-- the application property template
+abbrev pub piv_template : List ℕ
+piv_template =
+    0x61 ∷ 0x11 ∷ 0x4F ∷ 0x06 ∷ 0x00 ∷ 0x00 ∷ 0x10 ∷ 0x00 ∷ 0x01 ∷ 0x00
+    ∷ 0x79 ∷ 0x07 ∷ 0x4F ∷ 0x05 ∷ 0xA0 ∷ 0x00 ∷ 0x00 ∷ 0x03 ∷ 0x08 ∷ []
+
+-- a dynamic authentication template with this one field of 16 bytes
+abbrev pub template_with : ℕ → List ℕ → List ℕ
+template_with tag x = 0x7C ∷ 0x12 ∷ tag ∷ 0x10 ∷ x
+
+-- an object's value as GET DATA gives it; the Discovery Object stands at place 10
+abbrev pub object_data : ℕ → List ℕ → List ℕ
+object_data id value = spell (if id == 10 then 0x7E else 0x53) value
+
+-- the data of 90 00
+abbrev pub data_of : Situation → Ask → List ℕ
+data_of s (Get id) = object_data id (stored s.memory id)
+data_of s AskChallenge = template_with 0x81 s.next
+data_of s AskWitness = template_with 0x80 (enciphered s.memory.admin s.next)
+data_of s (Mutual w x) = template_with 0x82 (enciphered s.memory.admin x)
+data_of s (Internal x) = template_with 0x82 (enciphered s.memory.card_auth x)
+data_of s (Select Piv) = piv_template
+data_of s (Select Idle) = []
+data_of s (Put id v) = []
+data_of s (Logout r) = []
+data_of s (Query r) = []
+data_of s (Compare r p purpose) = []
+data_of s (External x) = []
+data_of s (Refused w) = []
+
+-- SELECT is answered under either application
+abbrev pub is_select : CardCommand → Bool
+is_select k = k.ins == 0xA4
+
+abbrev pub select_reply : Situation → Ask → Reply
+select_reply s (Refused w) = only w
+select_reply s a = record { word = 0x9000; body = data_of s a }
+
+-- every other command
+unfoldable pub answer_to : Situation → Ask → Reply
+answer_to s a =
+    if not s.piv then only 0x6D00
+    else if is_refused a then only (refusal_word a)
+    else if not (holds s (rule_of s.interface a)) then only 0x6982
+    else if lacks_pending s.pending a then only 0x6A80
+    else if is_wrong s.memory.admin s.pending a then only 0x6982
+    else if is_blocked s.memory a then only 0x6983
+    else if differs s.memory a then only (tries_word (tries_left s.memory a - 1))
+    else if asks_unknown_login s a then only (tries_word (tries_left s.memory a))
+    else if is_absent s.memory a then only 0x6A82
+    else if has_no_room s.memory a then only 0x6A84
+    else record { word = 0x9000; body = data_of s a }
+
+-- the answer to a command in a situation, and after a history
+unfoldable pub answer_in : Profile → Situation → CardCommand → Reply
+answer_in m s k = if is_select k then select_reply s (ask m k) else answer_to s (ask m k)
+
+unfoldable pub answer : Base → Past → ℕ → CardCommand → Reply
+answer B H c k = answer_in (profile B) (situation B H c) k

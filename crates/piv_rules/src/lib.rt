@@ -1,0 +1,26 @@
+//! The rules of the card, as definitions over its history, and their laws.
+#![tactic(auto)]
+
+mod asked;
+mod counters;
+mod examples;
+mod laws;
+mod lookback;
+mod seen;
+mod table;
+
+pub use asked::{Aim, Asked};
+pub use counters::{running_at, tries_left};
+pub use examples::{
+    answers_on_the_plain_card, losses_on_the_plain_card, parts_and_pieces_on_the_plain_card,
+};
+pub use laws::{
+    commands_are_entitled, connections_are_apart, losses_are_whole, one_entry_more, runs_are_legal,
+    spends_are_limited, what_is_acknowledged_lasts, words_have_their_causes,
+};
+pub use lookback::{Asks, Status, Waiting, is_break, is_in_force, pending_on, side_of};
+pub use seen::{Counter, Seen, answer_word, lines_of};
+pub use table::{Lines, word_of};
+
+#[cfg(test)]
+mod tests;

@@ -1,0 +1,181 @@
+// A situation as a plain program is given it, and the tests of the table's lines in it.
+ghost use Rattle.std.specs.Prelude.{◌≡◌, ◌≤◌, ◌<◌, Bool, sum_by, length};
+ghost use Rattle.piv_model.specs.Memory.{fits, reference, stored};
+ghost use Rattle.piv_rules.specs.Asks.{Ask};
+ghost use Rattle.piv_rules.specs.Answers.{Situation, holds, rule_of, status, is_wrong, answer_to};
+ghost use Rattle.piv_rules.specs.Lent.{ask_of, counter_of, AreFew, AreLines, IsSeen};
+
+use crate::asked::Asked;
+use crate::lookback::Waiting;
+use crate::table::{Lines, word_of};
+use piv_model::{Interface, RefId, Rule};
+
+/// A reference's tries and its secret.
+#[derive(Clone, Copy, Debug)]
+pub struct Counter<'a> {
+    pub tries: u8,
+    pub secret: &'a [u8],
+}
+
+/// What an answer depends on: a connection's side, application, logins and pending block, and the
+/// card's memory.
+#[derive(Clone, Copy, Debug)]
+pub struct Seen<'a> {
+    pub interface: Interface,
+    pub piv: bool,
+    pub pin: bool,
+    pub global: bool,
+    pub admin: bool,
+    pub pending: Waiting,
+    /// The Discovery Object is present and says that the Global PIN counts.
+    pub global_counts: bool,
+    pub pin_counter: Counter<'a>,
+    pub puk_counter: Counter<'a>,
+    pub global_counter: Counter<'a>,
+    /// The objects at their places; an empty one is absent.
+    pub objects: &'a [&'a [u8]],
+    /// The blocks of all objects present.
+    pub used: u64,
+    pub budget: u64,
+}
+
+// An access rule holds.
+fn permits(seen: &Seen<'_>, rule: Rule) -> bool
+    ensures { (s : Situation) → IsSeen seen.now s → result ≡ holds s rule }
+{
+    let contact = seen.interface == Interface::Contact;
+    match rule {
+        Rule::Always => true,
+        Rule::Pin => contact && (seen.pin || (seen.global && seen.global_counts)),
+        Rule::Never => false,
+        Rule::Admin => contact && seen.admin,
+        Rule::ContactUse => contact,
+        Rule::Response => false,
+    }
+}
+
+// A reference's counter.
+fn counter_at<'a>(seen: &Seen<'a>, r: RefId) -> Counter<'a>
+    requires { AreFew seen.now }
+    ensures few { result.tries ≤ 15 }
+    ensures counter { (s : Situation) → IsSeen seen.now s
+        → counter_of result (reference s.memory r) }
+{
+    match r {
+        RefId::Pin => seen.pin_counter,
+        RefId::Puk => seen.puk_counter,
+        RefId::GlobalPin => seen.global_counter,
+    }
+}
+
+// The number of bytes of an object.
+fn stored_length(seen: &Seen<'_>, id: u8) -> usize
+    ensures { (s : Situation) → IsSeen seen.now s → result ≡ length (stored s.memory id) }
+{
+    match seen.objects.get(id as usize) {
+        Some(object) => object.len(),
+        None => 0,
+    }
+}
+
+// There is room for a value.
+#[tactic(auto, unfolding(piv_model::specs::Memory::fits))]
+fn has_room(seen: &Seen<'_>, value: &[u8]) -> bool
+    ensures { (s : Situation) → IsSeen seen.now s → result ≡ fits s.memory value.now }
+{
+    if value.len() > 16384 {
+        return false;
+    }
+    let blocks = (value.len() as u64 + 63) / 64;
+    seen.used <= seen.budget && blocks <= seen.budget - seen.used
+}
+
+/// The tests of the table's lines for an ask whose access rule is `rule`. Whether the ask is a
+/// wrong response to what is pending is told, since the cipher isn't here.
+pub fn lines_of(seen: &Seen<'_>, asked: Asked<'_>, rule: Rule, wrong: bool) -> Lines
+    requires { AreFew seen.now }
+    ensures few { result.tries ≤ 15 }
+    ensures lines { (s : Situation) → IsSeen seen.now s
+        → rule ≡ rule_of s.interface (ask_of asked.entry)
+        → wrong ≡ is_wrong s.memory.admin s.pending (ask_of asked.entry)
+        → AreLines result s (ask_of asked.entry) }
+{
+    let lines = Lines {
+        piv: seen.piv,
+        refused: false,
+        refusal: 0,
+        permitted: permits(seen, rule),
+        lacks_pending: false,
+        wrong,
+        blocked: false,
+        differs: false,
+        unknown_login: false,
+        absent: false,
+        no_room: false,
+        tries: 0,
+    };
+    match asked {
+        Asked::Refused(word) => Lines {
+            refused: true,
+            refusal: word,
+            ..lines
+        },
+        Asked::Compare(r, candidate, _) => {
+            let counter = counter_at(seen, r);
+            Lines {
+                blocked: counter.tries == 0,
+                differs: candidate != counter.secret,
+                tries: counter.tries,
+                ..lines
+            }
+        }
+        Asked::Query(r) => Lines {
+            unknown_login: !is_logged_in(seen, r),
+            tries: counter_at(seen, r).tries,
+            ..lines
+        },
+        Asked::External(_) => Lines {
+            lacks_pending: !matches!(seen.pending, Waiting::Challenge(_)),
+            ..lines
+        },
+        Asked::Mutual(_, _) => Lines {
+            lacks_pending: !matches!(seen.pending, Waiting::Witness(_)),
+            ..lines
+        },
+        Asked::Get(id) => Lines {
+            absent: stored_length(seen, id) == 0,
+            ..lines
+        },
+        Asked::Put(_, value) => Lines {
+            no_room: !has_room(seen, value),
+            ..lines
+        },
+        Asked::Select(_)
+        | Asked::Logout(_)
+        | Asked::Internal(_)
+        | Asked::AskChallenge
+        | Asked::AskWitness => lines,
+    }
+}
+
+// The login of a reference is in force; the PUK has none.
+fn is_logged_in(seen: &Seen<'_>, r: RefId) -> bool
+    ensures { (s : Situation) → IsSeen seen.now s → result ≡ status s r }
+{
+    match r {
+        RefId::Pin => seen.pin,
+        RefId::GlobalPin => seen.global,
+        RefId::Puk => false,
+    }
+}
+
+/// The status word of an ask in a situation, SELECT apart: the first line of the table that fits.
+pub fn answer_word(seen: &Seen<'_>, asked: Asked<'_>, rule: Rule, wrong: bool) -> u16
+    requires { AreFew seen.now }
+    ensures { (s : Situation) → IsSeen seen.now s
+        → rule ≡ rule_of s.interface (ask_of asked.entry)
+        → wrong ≡ is_wrong s.memory.admin s.pending (ask_of asked.entry)
+        → result ≡ (answer_to s (ask_of asked.entry)).word }
+{
+    word_of(&lines_of(seen, asked, rule, wrong))
+}
