@@ -4,7 +4,7 @@ use Rattle.std.proofs.lemmas.Bool.Decides.{nat_tests}
 use Rattle.piv_model.specs.Commands.{CardCommand}
 use Rattle.piv_model.specs.Memory.{Memory}
 use Rattle.piv_rules.specs.Asks.{Refused, ask, select_ask, get_ask}
-use Rattle.piv_rules.specs.Base.{profile_of}
+use Rattle.piv_model.specs.Base.{profile_of}
 use Rattle.card_app.specs.Serves.{served}
 
 pub ask-select : (m : Memory) (k : CardCommand) → k.ins ≡ 0xA4 → ask (profile_of served m) k ≡ select_ask k

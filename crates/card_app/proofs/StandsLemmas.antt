@@ -11,7 +11,7 @@ use Rattle.piv_model.specs.Framing.{framing}
 use Rattle.piv_model.specs.Memory.{Memory, StoreState}
 use Rattle.piv_model.specs.Objects.{place_of}
 use Rattle.piv_model.specs.Entries.{CardEntry, Past, Opened, Call, Bad}
-use Rattle.piv_rules.specs.Base.{Base, Profile, profile, profile_of}
+use Rattle.piv_model.specs.Base.{Base, Profile, profile, profile_of}
 use Rattle.piv_rules.specs.Acts.{CardAct, CardAnswer, Connect, Connected, Exchange, Replied, Records, entries}
 use Rattle.piv_rules.specs.Asks.{Ask, Refused, Select, Get, Put, Logout, Query, Compare, Internal, AskChallenge, External, AskWitness, Mutual, Piv, Idle, ask, select_ask, get_ask, formed, found, is_at}
 use Rattle.piv_rules.specs.Answers.{answer, answer_in}

@@ -4,7 +4,7 @@ use Rattle.piv_model.specs.declared.kinds.Interface.{Interface}
 use Rattle.piv_model.specs.Commands.{CardApdu, command_of}
 use Rattle.piv_model.specs.Memory.{Memory, StoreState}
 use Rattle.piv_model.specs.Entries.{CardEntry, Past, Opened, Call, Bad}
-use Rattle.piv_rules.specs.Base.{Base, profile_of}
+use Rattle.piv_model.specs.Base.{Base, profile_of}
 use Rattle.piv_rules.specs.Acts.{CardAnswer, Connect, Exchange, Connected, Replied, CardRecord, Records, entries}
 use Rattle.piv_rules.specs.Answers.{answer_in}
 use Rattle.piv_rules.specs.Channels.{channel, seen, after_call}

@@ -1,7 +1,7 @@
 // A card with its connection.
 ghost use Rattle.std.specs.Prelude.{◌≡◌, ◌≤◌, ◌+◌, ◌-◌, ◌∷◌, take, ℕ, Bool, List, [], length, ⊤, true, false, Some, None, IsTrue, IfOk, IfErr};
 ghost use Rattle.piv_model.specs.Memory.{StoreState};
-ghost use Rattle.piv_rules.specs.Base.{Base};
+ghost use Rattle.piv_model.specs.Base.{Base};
 ghost use Rattle.piv_rules.specs.Acts.{Records, entries};
 ghost use Rattle.piv_rules.specs.Connections.{epoch, side};
 ghost use Rattle.piv_rules.specs.Frames.{piece_word};

@@ -4,7 +4,7 @@ ghost use Rattle.piv_model.specs.Commands.{command_of};
 ghost use Rattle.piv_model.specs.Memory.{Memory};
 ghost use Rattle.piv_rules.specs.Asks.{ask, select_ask};
 ghost use Rattle.piv_rules.specs.Answers.{answer_in, select_reply};
-ghost use Rattle.piv_rules.specs.Base.{profile_of};
+ghost use Rattle.piv_model.specs.Base.{profile_of};
 ghost use Rattle.piv_rules.specs.Channels.{after_call, seen};
 ghost use Rattle.card_app.specs.Channels.{channel_of};
 ghost use Rattle.card_app.specs.Serves.{served};

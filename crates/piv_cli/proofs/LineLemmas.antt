@@ -2,7 +2,7 @@
 use Rattle.std.proofs.Common.{◌≡◌, ℕ, true, length, arith, List, [], ◌∷◌, ◌++◌, refl, ap, sym, subst, ◌∙◌}
 use Rattle.std.proofs.lemmas.List.{append-nil, append_assoc}
 use Rattle.piv_model.specs.Memory.{StoreState}
-use Rattle.piv_rules.specs.Base.{Base}
+use Rattle.piv_model.specs.Base.{Base}
 use Rattle.piv_rules.specs.Acts.{Records}
 use Rattle.card_app.specs.declared.card.Card.{Card}
 use Rattle.std.specs.Prelude.{◌==◌, filter, take, Option, Some, None, IfSome}

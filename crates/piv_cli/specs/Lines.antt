@@ -6,7 +6,7 @@ use Rattle.hex.specs.Hex.{decode_of, encode_upper}
 use Rattle.hex.specs.declared.error.FromHexError.{FromHexError}
 use Rattle.piv_model.specs.declared.kinds.Interface.TheVariants.{Contact}
 use Rattle.piv_model.specs.Framing.{reply_bytes}
-use Rattle.piv_rules.specs.Base.{Base}
+use Rattle.piv_model.specs.Base.{Base}
 use Rattle.piv_rules.specs.Acts.{CardAnswer, Replied, Exchange, CardRecord, Records}
 use Rattle.piv_rules.specs.Turns.{IsTurned}
 use Rattle.card_app.specs.Stands.{opening}

@@ -1,7 +1,7 @@
 -- What is kept between the lines of an input.
 use Rattle.std.specs.Prelude.{◌≡◌, ◌≤◌, ℕ, List, ◌∷◌, ◌++◌, Bool, if◌then◌else◌}
 use Rattle.piv_model.specs.Memory.{StoreState}
-use Rattle.piv_rules.specs.Base.{Base}
+use Rattle.piv_model.specs.Base.{Base}
 use Rattle.piv_rules.specs.Acts.{Exchange, CardRecord, Records, entries}
 use Rattle.piv_rules.specs.Connections.{epoch, side}
 use Rattle.hex.specs.Hex.{encode_upper}

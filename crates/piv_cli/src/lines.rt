@@ -1,7 +1,7 @@
 // Lines of hexadecimal, each an APDU, and what is written for them.
 ghost use Rattle.std.specs.Prelude.{◌≡◌, ◌++◌, [], List, ℕ, true, IsTrue, IfOk, OnOk, Some, length};
 ghost use Rattle.std.specs.Vec.{vec_len};
-ghost use Rattle.piv_rules.specs.Base.{Base};
+ghost use Rattle.piv_model.specs.Base.{Base};
 ghost use Rattle.piv_rules.specs.Acts.{Records};
 ghost use Rattle.card_app.specs.Serves.{served};
 ghost use Rattle.card_app.specs.Stands.{CanExchange};

@@ -13,26 +13,43 @@ use crate::program::plain;
 use crate::status::Status;
 use crate::words::Words;
 use piv_ports::{StdSink, StdSource};
+use std::io::{Eprint, ErrorKind};
 use std::process::ExitCode;
 use std::{env, io};
 
-fn main(rt: HostRuntime) -> io::Result<ExitCode> {
+fn main(rt: HostRuntime) -> ExitCode {
     let alloc = rt.alloc();
+    let arguments = match env::args(&rt) {
+        Ok(arguments) => arguments,
+        Err(error) => return ended(&rt, without_words(&error)),
+    };
     let mut words = Words::new(alloc);
-    for word in env::args(&rt)?.skip(1) {
+    for word in arguments.skip(1) {
         if words.push(word.as_str()).is_err() {
-            eprintln!(rt; "piv: NoMemory")?;
-            return Ok(ExitCode::from(8));
+            return ended(&rt, Status::NoMemory);
         }
     }
     let mut source = StdSource::new(rt.reader());
     let mut sink = StdSink::new(io::writer(&rt));
     let status = plain(alloc, &words, &mut source, &mut sink);
+    ended(&rt, status)
+}
+
+// What it means that the arguments can't be had: a word that is no text is no command.
+fn without_words(error: &io::Error) -> Status {
+    match error.kind() {
+        ErrorKind::OutOfMemory => Status::NoMemory,
+        _ => Status::Usage,
+    }
+}
+
+// Says how the program ended on standard error. That it can't be said changes nothing.
+fn ended(rt: &impl Eprint, status: Status) -> ExitCode {
     if status != Status::Done {
-        eprintln!(rt; "piv: {status}")?;
+        let _ = eprintln!(rt; "piv: {status}");
     }
     if let Some(hint) = status.hint() {
-        eprintln!(rt; "piv: {hint}")?;
+        let _ = eprintln!(rt; "piv: {hint}");
     }
-    Ok(ExitCode::from(status.number()))
+    ExitCode::from(status.number())
 }

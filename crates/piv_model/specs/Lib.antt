@@ -8,3 +8,4 @@ pub mod Entries
 pub mod Cipher
 pub mod Field
 pub mod Written
+pub mod Base

@@ -4,7 +4,7 @@ use Rattle.std.specs.Prelude.{◌==◌}
 use Rattle.piv_model.specs.declared.kinds.Took.{Took}
 use Rattle.piv_model.specs.Commands.{CardCommand}
 use Rattle.piv_model.specs.Entries.{CardEntry, Past, Call, Part, Up}
-use Rattle.piv_rules.specs.Base.{profile, Base}
+use Rattle.piv_model.specs.Base.{profile, Base}
 use Rattle.piv_rules.specs.Asks.{ask}
 use Rattle.piv_rules.specs.Connections.{breaks}
 use Rattle.piv_rules.specs.Channels.{channel, fresh, after_call}

@@ -3,7 +3,7 @@ use Rattle.std.proofs.Common.{◌≡◌, ℕ, List, [], ◌∷◌, suc, length, 
 use Rattle.piv_model.specs.declared.kinds.RefId.{RefId}
 use Rattle.piv_model.specs.declared.history.Entry.{Entry}
 use Rattle.piv_model.specs.Memory.{reference}
-use Rattle.piv_rules.specs.Base.{Base}
+use Rattle.piv_model.specs.Base.{Base}
 use Rattle.piv_rules.specs.Memories.{tries}
 use Rattle.piv_rules.specs.Lent.{past_of}
 use Rattle.piv_rules.proofs.Steps.{tries-nil}

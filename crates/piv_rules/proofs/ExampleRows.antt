@@ -11,7 +11,7 @@ use Rattle.piv_rules.specs.Answers.{answer, answer_in, answer_to}
 use Rattle.piv_rules.specs.Frames.{rest}
 use Rattle.piv_rules.specs.Plans.{cost}
 use Rattle.piv_rules.specs.PlainCard.{plain_memory}
-use Rattle.piv_rules.specs.Base.{is_valid}
+use Rattle.piv_model.specs.Base.{is_valid}
 use Rattle.std.specs.Prelude.{IsTrue}
 use Rattle.piv_rules.specs.Examples.{plain, LoginOpens, IdleEndsTheLogin, WrongPinsBlock, PukUnblocks, ChangeLogsIn, WrongPukEndsTheLogin, PartsJoin, OtherHeadersAreRefused, PiecesEnd, WrongLoginLost, LossesBlock, RightLoginLost, RightLoginDone, LossesArePlanned}
 

@@ -8,7 +8,7 @@ use Rattle.piv_model.specs.Commands.{CardCommand, CardApdu}
 use Rattle.piv_model.specs.Framing.{framing, after_header, apdu_with}
 use Rattle.std.specs.Prelude.{Result, Ok, Err}
 use Rattle.piv_model.specs.Entries.{CardEntry, Past, Opened, Closed, Call, Part, Rest, Bad, Reset, Cut, Up, Note}
-use Rattle.piv_rules.specs.Base.{Base}
+use Rattle.piv_model.specs.Base.{Base}
 use Rattle.piv_rules.specs.Connections.{breaks, on, is_open, epoch, side}
 use Rattle.piv_rules.specs.Answers.{answer, Reply}
 use Rattle.piv_rules.specs.Legal.{IsLegal, IsAllowed, is_locked, is_full, is_noted, rests_after, open_ones}

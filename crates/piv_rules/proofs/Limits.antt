@@ -11,7 +11,7 @@ use Rattle.piv_rules.specs.Memories.{same_reference, fills, spends, tries, mem, 
 use Rattle.piv_model.specs.Commands.{CardCommand}
 use Rattle.piv_model.specs.Entries.{CardEntry, Past, Opened, Call, Up}
 use Rattle.piv_rules.specs.Lookback.{count_after, some_entry}
-use Rattle.piv_rules.specs.Base.{Base, Profile, profile, is_limited, is_limited_if_any, is_valid}
+use Rattle.piv_model.specs.Base.{Base, Profile, profile, is_limited, is_limited_if_any, is_valid}
 use Rattle.piv_model.specs.Memory.{has, Memory, Reference, reference, no_reference}
 use Rattle.std.specs.Prelude.{unwrap_or}
 use Rattle.piv_rules.specs.Asks.{Ask, Compare, Purpose, Verify, Change, Unblock, ask}

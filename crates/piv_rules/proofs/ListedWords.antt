@@ -10,7 +10,7 @@ use Rattle.piv_model.specs.Commands.{CardCommand}
 use Rattle.piv_model.specs.Memory.{reference}
 use Rattle.piv_model.specs.Objects.{place_of}
 use Rattle.piv_rules.specs.StatusWords.{tries_word}
-use Rattle.piv_rules.specs.Base.{Profile, profile, is_served}
+use Rattle.piv_model.specs.Base.{Profile, profile, is_served}
 use Rattle.piv_rules.specs.Forms.{PutForm, DiscoveryForm, ObjectForm, tag_named, put_named, Field, Absent, Empty, Sixteen, field, fields_of, are_fields}
 use Rattle.piv_rules.specs.Asks.{Ask, Refused, Get, Put, Query, Compare, formed, found, known, keyed, select_ask, get_ask, put_ask, put_asked, verify_ask, verify_form, verified_reference, change_ask, change_form, changed_reference, unblock_ask, authenticate_ask, key_named, auth_meant, meant, ask}
 use Rattle.piv_rules.specs.Answers.{Situation, Reply, only, situation, is_select, is_refused, refusal_word, holds, rule_of, lacks_pending, is_wrong, is_blocked, differs, asks_unknown_login, is_absent, has_no_room, tries_left, data_of, answer, answer_in, answer_to, select_reply}

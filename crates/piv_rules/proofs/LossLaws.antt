@@ -7,7 +7,7 @@ use Rattle.piv_model.specs.declared.kinds.Took.TheVariants.{Nothing}
 use Rattle.piv_model.specs.Commands.{CardCommand}
 use Rattle.piv_model.specs.Entries.{Cut, Up}
 use Rattle.piv_model.specs.Memory.{Reference, no_reference, reference, stored}
-use Rattle.piv_rules.specs.Base.{Base}
+use Rattle.piv_model.specs.Base.{Base}
 use Rattle.piv_rules.specs.Memories.{running, count_up, reference_now, mem}
 use Rattle.piv_rules.specs.Losses.{before_cut, is_possible}
 use Rattle.piv_rules.specs.HistoryLaws.{CutsLeaveTheMemory, UpsTellTheMemory, NothingMayBeTaken, StartsWithTheBase}

@@ -7,7 +7,7 @@ use Rattle.piv_model.specs.declared.kinds.Took.{Took}
 use Rattle.piv_model.specs.declared.kinds.Took.TheVariants.{Nothing, Spent, Done}
 use Rattle.piv_model.specs.Commands.{CardCommand}
 use Rattle.piv_model.specs.Entries.{CardEntry, Past}
-use Rattle.piv_rules.specs.Base.{Profile, profile, profile_of, Base}
+use Rattle.piv_model.specs.Base.{Profile, profile, profile_of, Base}
 use Rattle.piv_model.specs.Memory.{Memory, Reference, stored, has, no_reference, reference}
 use Rattle.piv_rules.specs.Asks.{Ask, Refused, Select, Get, Put, Logout, Query, Compare, Internal, AskChallenge, External, AskWitness, Mutual, Verify, Change, Unblock, ask}
 use Rattle.piv_rules.specs.Memories.{did, count_up, mem, object, reference_now, filled_by, did_so, spent_by, secret_by, object_by}

@@ -1,7 +1,7 @@
 -- A refusal has no data.
 use Rattle.std.proofs.Common.{◌≡◌, ℕ, Bool, true, false, [], refl}
 use Rattle.std.specs.Prelude.{if◌then◌else◌, not}
-use Rattle.piv_rules.specs.Base.{profile}
+use Rattle.piv_model.specs.Base.{profile}
 use Rattle.piv_rules.specs.Asks.{Ask, Refused, Select, Get, Put, Logout, Query, Compare, Internal, AskChallenge, External, AskWitness, Mutual, ask}
 use Rattle.piv_rules.specs.Answers.{Situation, situation, Reply, only, answer, answer_in, answer_to, select_reply, is_select, is_refused, refusal_word, holds, rule_of, lacks_pending, is_wrong, is_blocked, differs, asks_unknown_login, is_absent, has_no_room}
 use Rattle.piv_rules.specs.AnswerWords.{RefusalsHaveNoData}

@@ -5,7 +5,7 @@ use Rattle.std.proofs.Math.Seq.{drop-nil}
 use Rattle.std.specs.Prelude.{if◌then◌else◌, ◌==◌}
 use Rattle.piv_rules.specs.StatusWords.{is_granted}
 use Rattle.piv_model.specs.Entries.{CardEntry, Past, Opened, Closed, Call, Part, Rest, Bad, Reset, Cut, Up, Note}
-use Rattle.piv_rules.specs.Base.{Base}
+use Rattle.piv_model.specs.Base.{Base}
 use Rattle.piv_rules.specs.Connections.{breaks}
 use Rattle.piv_rules.specs.Answers.{answer}
 use Rattle.piv_rules.specs.Acts.{CardRecord, Records, entries}

@@ -6,7 +6,7 @@ use Rattle.piv_model.specs.declared.history.Refusal.{Refusal}
 use Rattle.piv_model.specs.Commands.{CardCommand, CardApdu}
 use Rattle.piv_model.specs.Framing.{framing, after_header, apdu_with}
 use Rattle.piv_model.specs.Entries.{CardEntry, Past, Opened, Closed, Call, Part, Rest, Bad, Reset, Cut, Up, Note}
-use Rattle.piv_rules.specs.Base.{Base, is_served}
+use Rattle.piv_model.specs.Base.{Base, is_served}
 use Rattle.piv_rules.specs.Connections.{breaks}
 use Rattle.piv_rules.specs.Acts.{CardAct, Connect, Disconnect, Exchange, ResetSide, CutPower, PowerOn, CardAnswer, Records, entries}
 use Rattle.piv_rules.specs.Frames.{Frame, BadFrame, PartFrame, RestFrame, WholeFrame, frame, frame_of, single_frame, chained_frame, next_piece, chain, rest, parts, parts_with, commands_of}

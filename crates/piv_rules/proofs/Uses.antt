@@ -11,7 +11,7 @@ use Rattle.piv_model.specs.Commands.{CardCommand}
 use Rattle.piv_model.specs.Entries.{CardEntry, Past, Opened, Closed, Call, Part, Rest, Bad, Reset, Cut, Up, Note}
 use Rattle.piv_model.specs.Memory.{Memory, reference}
 use Rattle.piv_rules.specs.StatusWords.{is_granted, tries_word}
-use Rattle.piv_rules.specs.Base.{Base, profile}
+use Rattle.piv_model.specs.Base.{Base, profile}
 use Rattle.piv_rules.specs.Asks.{Ask, Refused, Query, Compare, ask}
 use Rattle.piv_rules.specs.Connections.{side, breaks, by_call}
 use Rattle.piv_rules.specs.Logins.{Login, PinLogin, GlobalLogin, AdminLogin, login_after, in_force}

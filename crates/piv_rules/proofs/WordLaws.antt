@@ -12,7 +12,7 @@ use Rattle.piv_model.specs.Entries.{Past}
 use Rattle.piv_model.specs.Memory.{CardKey, reference, stored, fits}
 use Rattle.piv_model.specs.Objects.{read_rule_of}
 use Rattle.piv_rules.specs.StatusWords.{is_mismatched, tries_word}
-use Rattle.piv_rules.specs.Base.{Base}
+use Rattle.piv_model.specs.Base.{Base}
 use Rattle.piv_rules.specs.Asks.{Ask, Refused, Get, Put, Logout, Query, Compare, Internal, AskChallenge, External, AskWitness, Mutual, Purpose}
 use Rattle.piv_rules.specs.Connections.{side, selected}
 use Rattle.piv_rules.specs.Logins.{Pending, NonePending, Challenge, Witness, pending}

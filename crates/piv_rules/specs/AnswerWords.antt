@@ -11,7 +11,7 @@ use Rattle.piv_model.specs.Entries.{Past}
 use Rattle.piv_model.specs.Memory.{has, fits}
 use Rattle.piv_model.specs.Objects.{read_rule_of}
 use Rattle.piv_rules.specs.StatusWords.{is_mismatched, tries_word}
-use Rattle.piv_rules.specs.Base.{Base, profile, is_valid}
+use Rattle.piv_model.specs.Base.{Base, profile, is_valid}
 use Rattle.piv_rules.specs.Asks.{Ask, Refused, Select, Get, Put, Logout, Query, Compare, Internal, AskChallenge, External, AskWitness, Mutual, Piv, Idle, Purpose, ask}
 use Rattle.piv_rules.specs.Connections.{side, selected}
 use Rattle.piv_rules.specs.Logins.{Pending, NonePending, Challenge, Witness, pending}

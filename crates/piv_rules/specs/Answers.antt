@@ -17,7 +17,7 @@ use Rattle.piv_model.specs.Objects.{read_rule_of}
 use Rattle.piv_model.specs.Rules.{use_rule_of}
 use Rattle.piv_model.specs.Cipher.{encipher}
 use Rattle.piv_rules.specs.StatusWords.{tries_word}
-use Rattle.piv_rules.specs.Base.{Base, Profile, profile}
+use Rattle.piv_model.specs.Base.{Base, Profile, profile}
 use Rattle.piv_rules.specs.Asks.{Ask, Refused, Select, Get, Put, Logout, Query, Compare, Internal, AskChallenge, External, AskWitness, Mutual, Piv, Idle, ask}
 use Rattle.piv_rules.specs.Connections.{side, selected}
 use Rattle.piv_rules.specs.Logins.{PinLogin, GlobalLogin, AdminLogin, in_force, Pending, NonePending, Challenge, Witness, pending}

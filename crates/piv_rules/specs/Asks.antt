@@ -9,7 +9,7 @@ use Rattle.piv_model.specs.declared.kinds.KeyId.{KeyId}
 use Rattle.piv_model.specs.declared.kinds.KeyId.TheVariants.{AdminKey, CardAuth}
 use Rattle.piv_model.specs.Commands.{CardCommand}
 use Rattle.piv_model.specs.Objects.{place_of}
-use Rattle.piv_rules.specs.Base.{Profile, is_served}
+use Rattle.piv_model.specs.Base.{Profile, is_served}
 use Rattle.piv_rules.specs.Forms.{full_aid, short_aid, idle_aid, is_pin, tag_named, PutForm, DiscoveryForm, ObjectForm, put_named, Field, Absent, Empty, Sixteen, field, are_fields, fields_of}
 
 pub data Application : Type 0 where

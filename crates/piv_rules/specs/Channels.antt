@@ -4,7 +4,7 @@ use Rattle.std.specs.Prelude.{ℕ, Bool, false, List, Option, unwrap_or}
 use Rattle.piv_model.specs.declared.kinds.Interface.{Interface}
 use Rattle.piv_model.specs.Entries.{Past}
 use Rattle.piv_model.specs.Memory.{Memory}
-use Rattle.piv_rules.specs.Base.{Base}
+use Rattle.piv_model.specs.Base.{Base}
 use Rattle.piv_rules.specs.Asks.{Ask}
 use Rattle.piv_rules.specs.Connections.{selected, selected_after}
 use Rattle.piv_rules.specs.Logins.{PinLogin, GlobalLogin, AdminLogin, in_force, pin_after, global_after, admin_after, Pending, NonePending, pending, pending_by}

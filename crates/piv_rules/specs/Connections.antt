@@ -6,7 +6,7 @@ use Rattle.piv_model.specs.declared.kinds.Interface.TheVariants.{Contact, Contac
 use Rattle.piv_model.specs.Entries.{CardEntry, Past, Opened, Closed, Call, Reset, Cut, Up}
 use Rattle.piv_rules.specs.StatusWords.{is_granted}
 use Rattle.piv_rules.specs.Lookback.{last_of, some_entry}
-use Rattle.piv_rules.specs.Base.{Base, Profile, profile}
+use Rattle.piv_model.specs.Base.{Base, Profile, profile}
 use Rattle.piv_rules.specs.Asks.{Ask, Select, Piv, Idle, ask}
 
 abbrev pub same_side : Interface → Interface → Bool

@@ -7,7 +7,7 @@ use Rattle.piv_model.specs.declared.kinds.Took.{Took}
 use Rattle.piv_model.specs.declared.kinds.Took.TheVariants.{Spent, Done}
 use Rattle.piv_model.specs.Commands.{CardCommand}
 use Rattle.piv_model.specs.Memory.{Memory, Reference}
-use Rattle.piv_rules.specs.Base.{Profile}
+use Rattle.piv_model.specs.Base.{Profile}
 use Rattle.piv_rules.specs.Asks.{Ask, Put, Compare, Verify, Change, Unblock, ask}
 
 -- a counter filled, a secret renewed, one try less

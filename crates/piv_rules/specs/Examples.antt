@@ -6,7 +6,7 @@ use Rattle.piv_model.specs.declared.kinds.RefId.TheVariants.{Pin}
 use Rattle.piv_model.specs.declared.kinds.Took.TheVariants.{Nothing, Spent, Done}
 use Rattle.piv_model.specs.Commands.{CardCommand, CardApdu}
 use Rattle.piv_model.specs.Entries.{Past, ◌▸◌, Opened, Call, Rest, Cut, Up}
-use Rattle.piv_rules.specs.Base.{Base}
+use Rattle.piv_model.specs.Base.{Base}
 use Rattle.piv_rules.specs.Forms.{full_aid, short_aid, idle_aid}
 use Rattle.piv_rules.specs.Memories.{tries}
 use Rattle.piv_rules.specs.Answers.{Reply, only, piv_template, answer}

@@ -5,7 +5,7 @@ use Rattle.std.specs.Prelude.{ℕ, Bool, not, ◌&&◌, ◌||◌, ◌==◌, nat_
 use Rattle.std.specs.List.{list_all}
 use Rattle.std.specs.Str.{bytes_eq}
 use Rattle.ber_tlv.specs.Elements.{Element, elements_of}
-use Rattle.piv_rules.specs.Base.{Profile}
+use Rattle.piv_model.specs.Base.{Profile}
 
 -- the full and the truncated name of the PIV application, and the name of the idle one
 abbrev pub full_aid : List ℕ

@@ -5,7 +5,7 @@ use Rattle.piv_model.specs.Commands.{CardCommand, CardApdu}
 use Rattle.piv_model.specs.Framing.{framing}
 use Rattle.piv_model.specs.Entries.{CardEntry, Past, Call, Part, Rest, Bad}
 use Rattle.piv_rules.specs.StatusWords.{is_granted}
-use Rattle.piv_rules.specs.Base.{Base, is_served}
+use Rattle.piv_model.specs.Base.{Base, is_served}
 use Rattle.piv_rules.specs.Connections.{breaks}
 use Rattle.piv_rules.specs.Answers.{answer}
 use Rattle.piv_rules.specs.Acts.{CardAct, Exchange, CardAnswer, Replied, Records, entries}

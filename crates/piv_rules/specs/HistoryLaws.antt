@@ -12,7 +12,7 @@ use Rattle.piv_model.specs.Commands.{CardCommand}
 use Rattle.piv_model.specs.Entries.{CardEntry, Past, ◌▸◌, Call, Part, Rest, Bad, Cut, Up}
 use Rattle.piv_model.specs.Memory.{has, reference, stored}
 use Rattle.piv_rules.specs.StatusWords.{is_granted}
-use Rattle.piv_rules.specs.Base.{Base, profile, is_valid}
+use Rattle.piv_model.specs.Base.{Base, profile, is_valid}
 use Rattle.piv_rules.specs.Asks.{Put, Compare, Change, Unblock, Select, Piv, ask}
 use Rattle.piv_rules.specs.Connections.{side, breaks, by_call, on_connection, selected, selected_after}
 use Rattle.piv_rules.specs.Logins.{Login, PinLogin, GlobalLogin, AdminLogin, login_after, in_force, NonePending, pending, pending_after}

@@ -10,7 +10,7 @@ use Rattle.piv_model.specs.declared.history.Refusal.TheVariants as why
 use Rattle.piv_model.specs.Commands.{CardCommand}
 use Rattle.piv_model.specs.Entries.{CardEntry, Past, Opened, Closed, Call, Part, Rest, Bad, Reset, Cut, Up, Note}
 use Rattle.piv_rules.specs.StatusWords.{is_granted, is_mismatched, is_framing_word}
-use Rattle.piv_rules.specs.Base.{Base, profile}
+use Rattle.piv_model.specs.Base.{Base, profile}
 use Rattle.piv_rules.specs.Asks.{Ask, Put, Compare, AskChallenge, AskWitness, ask}
 use Rattle.piv_rules.specs.Connections.{same_side, on, is_open, side, is_exclusive, epoch, breaks}
 use Rattle.piv_rules.specs.RandomBlocks.{next_block}

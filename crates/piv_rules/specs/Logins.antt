@@ -6,7 +6,7 @@ use Rattle.piv_model.specs.declared.kinds.RefId.TheVariants.{Pin, Puk, GlobalPin
 use Rattle.piv_model.specs.Entries.{Past}
 use Rattle.piv_rules.specs.StatusWords.{is_granted, is_mismatched}
 use Rattle.piv_rules.specs.Lookback.{last_of}
-use Rattle.piv_rules.specs.Base.{Base, profile}
+use Rattle.piv_model.specs.Base.{Base, profile}
 use Rattle.piv_rules.specs.Asks.{Ask, Select, Logout, Compare, AskChallenge, External, AskWitness, Mutual, Idle, Verify, Change, Unblock}
 use Rattle.piv_rules.specs.Connections.{on_connection}
 

@@ -6,7 +6,7 @@ use Rattle.piv_model.specs.declared.kinds.Took.TheVariants.{Nothing, Spent, Done
 use Rattle.piv_model.specs.Commands.{CardCommand}
 use Rattle.piv_model.specs.Entries.{Past, Cut, Up}
 use Rattle.piv_model.specs.Memory.{Memory, has}
-use Rattle.piv_rules.specs.Base.{Base, profile}
+use Rattle.piv_model.specs.Base.{Base, profile}
 use Rattle.piv_rules.specs.Asks.{Ask, Put, Compare, Unblock, ask}
 use Rattle.piv_rules.specs.Memories.{running, secret, mem}
 

@@ -10,7 +10,7 @@ use Rattle.piv_model.specs.Entries.{CardEntry, Past, Call, Cut, Up}
 use Rattle.piv_model.specs.Memory.{Memory, Reference, has, reference, stored}
 use Rattle.piv_rules.specs.StatusWords.{is_granted, is_mismatched}
 use Rattle.piv_rules.specs.Lookback.{last_of, count_after, some_entry}
-use Rattle.piv_rules.specs.Base.{Base, Profile, profile}
+use Rattle.piv_model.specs.Base.{Base, Profile, profile}
 use Rattle.piv_rules.specs.Asks.{Ask, Put, Compare, Purpose, Change, Unblock, ask}
 
 abbrev pub same_reference : RefId → RefId → Bool

@@ -2,7 +2,7 @@
 -- random bytes (this project's own).
 use Rattle.std.specs.Prelude.{ℕ, List, [], ◌∷◌, ◌++◌, replicate, None}
 use Rattle.piv_model.specs.Memory.{Memory}
-use Rattle.piv_rules.specs.Base.{Base}
+use Rattle.piv_model.specs.Base.{Base}
 use Rattle.piv_rules.specs.Forms.{discovery_head}
 
 abbrev pub plain_pin : List ℕ

@@ -6,7 +6,7 @@ use Rattle.std.specs.List.{list_any}
 use Rattle.piv_model.specs.Commands.{CardCommand}
 use Rattle.piv_model.specs.Entries.{CardEntry, Past, Call, Cut}
 use Rattle.piv_rules.specs.StatusWords.{is_granted, is_mismatched}
-use Rattle.piv_rules.specs.Base.{Base, profile}
+use Rattle.piv_model.specs.Base.{Base, profile}
 use Rattle.piv_rules.specs.Asks.{Ask, Put, Compare, ask}
 use Rattle.piv_rules.specs.Answers.{answer}
 

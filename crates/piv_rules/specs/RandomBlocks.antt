@@ -4,7 +4,7 @@ use Rattle.std.specs.Prelude.{ℕ, ◌+◌, ◌*◌, Bool, false, List, ◌++◌
 use Rattle.std.specs.Int.{w32, to_le_bytes}
 use Rattle.rand_chacha.specs.ChaCha.{word_at, key_of}
 use Rattle.piv_model.specs.Entries.{CardEntry, Past, Call}
-use Rattle.piv_rules.specs.Base.{Base}
+use Rattle.piv_model.specs.Base.{Base}
 
 -- the bytes of the word at a place of a key stream
 abbrev pub word_bytes : List ℕ → ℕ → List ℕ

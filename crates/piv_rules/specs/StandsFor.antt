@@ -7,7 +7,7 @@ use Rattle.piv_model.specs.declared.kinds.Took.{Took}
 use Rattle.piv_model.specs.Commands.{CardCommand}
 use Rattle.piv_model.specs.Entries.{Past, ◌▸◌, Up}
 use Rattle.piv_model.specs.Memory.{Memory}
-use Rattle.piv_rules.specs.Base.{Base}
+use Rattle.piv_model.specs.Base.{Base}
 use Rattle.piv_rules.specs.Connections.{on, is_open, side, is_exclusive, epoch}
 use Rattle.piv_rules.specs.Memories.{running, comparisons, mem}
 use Rattle.piv_rules.specs.RandomBlocks.{next_block}

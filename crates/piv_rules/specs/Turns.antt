@@ -8,7 +8,7 @@ use Rattle.piv_model.specs.declared.history.Refusal.TheVariants as why
 use Rattle.piv_model.specs.Commands.{CardCommand}
 use Rattle.piv_model.specs.Entries.{CardEntry, Past, Opened, Closed, Call, Part, Rest, Bad, Reset, Cut, Up, Note}
 use Rattle.piv_rules.specs.StatusWords.{is_granted}
-use Rattle.piv_rules.specs.Base.{Base}
+use Rattle.piv_model.specs.Base.{Base}
 use Rattle.piv_rules.specs.Connections.{on, is_open, side, epoch}
 use Rattle.piv_rules.specs.Answers.{answer, Reply}
 use Rattle.piv_rules.specs.Losses.{MayTake}

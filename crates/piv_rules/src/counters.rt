@@ -4,7 +4,7 @@ ghost use Rattle.std.specs.Prelude.{◌≡◌, ◌≤◌, ℕ, option_map};
 ghost use Rattle.piv_model.specs.Commands.{command_of};
 ghost use Rattle.piv_model.specs.Entries.{entry_of};
 ghost use Rattle.piv_model.specs.Memory.{reference};
-ghost use Rattle.piv_rules.specs.Base.{Base, profile};
+ghost use Rattle.piv_model.specs.Base.{Base, profile};
 ghost use Rattle.piv_rules.specs.Memories.{running, did, filled_by, spent_by, tries};
 ghost use Rattle.piv_rules.specs.Lent.{ask_of, past_of};
 

@@ -1,6 +1,6 @@
 // Worked examples on the plain card. Each is the contract of a function that does nothing.
 ghost use Rattle.std.specs.Prelude.{IsTrue};
-ghost use Rattle.piv_rules.specs.Base.{is_valid};
+ghost use Rattle.piv_model.specs.Base.{is_valid};
 ghost use Rattle.piv_rules.specs.Examples.{plain, LoginOpens, IdleEndsTheLogin, WrongPinsBlock, PukUnblocks, ChangeLogsIn, WrongPukEndsTheLogin, ChallengeIsTheBlock, ChallengeIsAnsweredOnce, PartsJoin, OtherHeadersAreRefused, PiecesEnd, WrongLoginLost, LossesBlock, RightLoginLost, RightLoginDone, LossesArePlanned};
 
 /// What the plain card answers to commands that come one after the other.

@@ -3,7 +3,7 @@
 ghost use Rattle.std.specs.Prelude.{◌≡◌, ℕ, List, Option};
 ghost use Rattle.piv_model.specs.Commands.{command_of};
 ghost use Rattle.piv_model.specs.Entries.{entry_of};
-ghost use Rattle.piv_rules.specs.Base.{Base, Profile, profile};
+ghost use Rattle.piv_model.specs.Base.{Base, Profile, profile};
 ghost use Rattle.piv_rules.specs.Asks.{ask};
 ghost use Rattle.piv_rules.specs.Connections.{side, breaks, by_call};
 ghost use Rattle.piv_rules.specs.Logins.{compared, ends_if, pin_after, global_after, admin_after, in_force, login_after, pending, pending_by};

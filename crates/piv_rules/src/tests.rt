@@ -13,7 +13,7 @@ static SHORT_AID: [u8; 9] = [0xA0, 0x00, 0x00, 0x03, 0x08, 0x00, 0x00, 0x10, 0x0
 static IDLE_AID: [u8; 5] = [0xF0, 0x49, 0x44, 0x4C, 0x45];
 
 ghost use Rattle.std.specs.Prelude.{◌≡◌, ◌∷◌, [], false};
-ghost use Rattle.piv_rules.specs.Base.{Profile};
+ghost use Rattle.piv_model.specs.Base.{Profile};
 ghost use Rattle.std.specs.List.{list_all};
 ghost use Rattle.piv_model.specs.Commands.{command_of};
 ghost use Rattle.piv_rules.specs.Asks.{select_ask, verify_ask};

@@ -1,6 +1,6 @@
 use Rattle.std.proofs.Common.{◌≡◌, ◌++◌, ℕ, List, Some, length}
 use Rattle.std.specs.List.{slice_split}
-use Rattle.piv_rules.specs.Base.{Base}
+use Rattle.piv_model.specs.Base.{Base}
 use Rattle.piv_rules.specs.Acts.{Records}
 use Rattle.card_app.specs.Serves.{served}
 use Rattle.card_app.specs.Stands.{CanExchange}
