@@ -1,6 +1,6 @@
 //! A cursor over elements.
 
-ghost use Rattle.std.specs.Prelude.{◌≡◌, ◌-◌, ◌≤◌, ◌↔◌, ℕ, [], length, slice_range, None, Ok, Err, IfOk, IfSome, IfErr, OnErr};
+ghost use Rattle.std.specs.Prelude.{◌≡◌, ◌≤◌, ◌↔◌, [], length, None, Ok, Err, IfOk, IfSome, IfErr, OnErr};
 ghost use Rattle.ber_tlv.specs.declared.fault.TlvKind.{TlvKind};
 ghost use Rattle.ber_tlv.specs.Elements.{BeginsWith};
 ghost use Rattle.ber_tlv.specs.Faults.{NoneBegins, IsFault};

@@ -25,9 +25,13 @@ use Rattle.card_app.specs.Serves.{served}
 abbrev pub IsAttached : {S : Type 0} → Card S → ℕ → Type 0
 IsAttached card c = IsSomeAnd card.channel (λ x. x.c ≡ c)
 
+-- the card has power
+abbrev pub HasPower : {S : Type 0} → (S → StoreState) → Card S → Type 0
+HasPower state card = IsTrue (state card.store).on
+
 -- the card has power, and the connection is attached
 pub record CanExchange {S : Type 0} (state : S → StoreState) (card : Card S) (c : ℕ) : Type 0 where
-  pub on : IsTrue (state card.store).on
+  pub on : HasPower state card
   pub attached : IsAttached card c
 
 -- what is kept of the connection is what the history says of it

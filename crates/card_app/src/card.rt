@@ -1,12 +1,10 @@
 // A card with its connection.
 ghost use Rattle.std.specs.Prelude.{◌≡◌, ◌≤◌, ◌+◌, ◌-◌, ◌∷◌, take, ℕ, Bool, List, [], length, ⊤, true, false, Some, None, IsTrue, IfOk, IfErr};
-ghost use Rattle.piv_model.specs.Memory.{StoreState};
 ghost use Rattle.piv_model.specs.Base.{Base};
 ghost use Rattle.piv_rules.specs.Acts.{Records, entries};
 ghost use Rattle.piv_rules.specs.Connections.{epoch, side};
 ghost use Rattle.piv_rules.specs.Frames.{piece_word};
 ghost use Rattle.piv_rules.specs.Legal.{opened_count};
-ghost use Rattle.piv_rules.specs.Memories.{mem};
 ghost use Rattle.card_app.specs.Serves.{served};
 
 use crate::application::{Application, Channel};
@@ -71,7 +69,7 @@ impl<S: Store> Card<S> {
     ghost use Rattle.std.specs.Borrow.{sem, follows_so};
     ghost use mathlib.Core.Option.{none};
     ghost use Rattle.card_app.specs.contracts.card.Card.{the_row};
-    ghost use Rattle.card_app.specs.Stands.{StandsFor, CanExchange, IsAttached, opening, exchange_by, exchange_turned, IsCalled, DrewNothing, IsShort, IsShortTurn};
+    ghost use Rattle.card_app.specs.Stands.{StandsFor, HasPower, CanExchange, IsAttached, opening, exchange_by, exchange_turned, IsCalled, DrewNothing, IsShort, IsShortTurn};
     ghost use Rattle.piv_model.specs.Commands.{apdu_of};
 
     /// A card over a store that has power. Its buffers are reserved here; where memory is wanting the
@@ -81,7 +79,7 @@ impl<S: Store> Card<S> {
         ensures stands { IfOk result (λ card. (B : Base) → B.serves ≡ served → length B.memory.objects ≡ 33
             → (S.state store).mem ≡ Some B.memory → StandsFor S.state card B []) }
         ensures free { IfOk result (λ card. (c : ℕ) → IsAttached card c → ⊥) }
-        ensures on { IfOk result (λ card. IsTrue (S.state card.store).on) }
+        ensures on { IfOk result (λ card. HasPower S.state card) }
         ensures err { IfErr result (λ fault. fault ≡ CardFault.NoMemory store) }
     {
         let Ok(joined) = Buffer::with_room(alloc, COMMAND_ROOM) else {
@@ -104,7 +102,7 @@ impl<S: Store> Card<S> {
         ensures full { (d : ℕ) → IsAttached self.old d → result ≡ false }
         ensures free { ((d : ℕ) → IsAttached self.old d → ⊥) → result ≡ true }
         ensures same { result ≡ false → self.new ≡ self.old }
-        ensures ready { result ≡ true → IsTrue (S.state self.old.store).on → CanExchange S.state self.new c }
+        ensures ready { result ≡ true → HasPower S.state self.old → CanExchange S.state self.new c }
         ensures stands { result ≡ true → (B : Base) (R : Records) (shared : Bool) → StandsFor S.state self.old B R
             → c ≡ opened_count (entries R) + 1
             → StandsFor S.state self.new B (opening c (epoch (entries R) interface) interface shared ∷ R) }

@@ -1,5 +1,5 @@
 // The commands, in the order in which they are refused.
-ghost use Rattle.std.specs.Prelude.{◌≡◌, ◌≤◌, [], List, ℕ, Some, None, IsTrue, IfSome};
+ghost use Rattle.std.specs.Prelude.{◌≡◌, ◌≤◌, [], List, ℕ, Some, None, IsTrue};
 ghost use Rattle.piv_model.specs.Commands.{command_of};
 ghost use Rattle.piv_model.specs.Memory.{Memory};
 ghost use Rattle.piv_rules.specs.Asks.{ask, select_ask};

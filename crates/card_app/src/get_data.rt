@@ -1,5 +1,5 @@
 // GET DATA.
-ghost use Rattle.std.specs.Prelude.{◌≡◌, ◌≤◌, ◌+◌, [], List, ℕ, Some, true, IsTrue, MatchResult, length, option_and_then, option_map, option_copied};
+ghost use Rattle.std.specs.Prelude.{◌≡◌, ◌≤◌, [], List, ℕ, Some, true, IsTrue, MatchResult, length, option_and_then};
 ghost use Rattle.ber_tlv.specs.Elements.{elements_of};
 ghost use Rattle.piv_model.specs.Commands.{command_of};
 ghost use Rattle.piv_model.specs.Memory.{Memory};

@@ -1,8 +1,8 @@
 // A row of bytes in memory, which never loses power by itself.
 ghost use Rattle.std.specs.Prelude.{◌≡◌, ◌+◌, ◌^◌, ◌<◌, ◌≤◌, [], length, Some, refl, IfOk};
 ghost use Rattle.std.proofs.Common.{lit≤};
-ghost use Rattle.nvm_device.specs.Bytes.{bytes_at, overwrite, zeros};
-ghost use Rattle.nvm_device.specs.Device.{DeviceState, blank};
+ghost use Rattle.nvm_device.specs.Bytes.{bytes_at, overwrite};
+ghost use Rattle.nvm_device.specs.Device.{blank};
 
 use crate::{Lost, Nvm};
 use std::alloc::Global;

@@ -1,6 +1,5 @@
 ghost use Rattle.std.specs.Prelude.{◌≡◌, ◌+◌, ◌-◌, ◌^◌, ◌<◌, ◌≤◌, true, length, [], ◌∷◌, None, IfOk};
 ghost use Rattle.std.proofs.Common.{lit<};
-ghost use Rattle.nvm_device.specs.Device.{DeviceState};
 
 use crate::{Fused, How, Loss, Lost, MemNvm, Nvm, Pattern};
 use std::alloc::{AllocError, Global};

@@ -1,5 +1,5 @@
 // A selector byte and two slots.
-ghost use Rattle.std.specs.Prelude.{◌≡◌, ◌<◌, ◌≤◌, ◌+◌, length, true, slice_index, IfSome, OnOk, OnErr};
+ghost use Rattle.std.specs.Prelude.{◌≡◌, ◌<◌, ◌≤◌, length, true, slice_index, IfSome, OnOk, OnErr};
 ghost use Rattle.loss_words.specs.Told.{LostWhereDue};
 
 use nvm_device::{Lost, Nvm};

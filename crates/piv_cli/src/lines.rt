@@ -1,11 +1,10 @@
 // Lines of hexadecimal, each an APDU, and what is written for them.
-ghost use Rattle.std.specs.Prelude.{◌≡◌, ◌++◌, [], List, ℕ, true, IsTrue, IfOk, OnOk, Some, length};
-ghost use Rattle.std.specs.Vec.{vec_len};
+ghost use Rattle.std.specs.Prelude.{◌≡◌, [], IsTrue, IfOk, OnOk, Some, length};
 ghost use Rattle.piv_model.specs.Base.{Base};
 ghost use Rattle.piv_rules.specs.Acts.{Records};
 ghost use Rattle.card_app.specs.Serves.{served};
 ghost use Rattle.card_app.specs.Stands.{CanExchange};
-ghost use Rattle.piv_cli.specs.Lines.{AreLines, Line, Command, kept as kept_of, text_line};
+ghost use Rattle.piv_cli.specs.Lines.{AreLines, kept as kept_of, text_line};
 ghost use Rattle.piv_cli.specs.Sessions.{Answers, IsAfter, Replies};
 
 use crate::hexadecimal::{

@@ -1,5 +1,5 @@
 // What the program does, over any source and sink.
-ghost use Rattle.std.specs.Prelude.{◌≡◌, ◌≤◌, ◌<◌, ◌+◌, ◌⊎◌, ℕ, List, length, take, Some, None, is_some, IfSome};
+ghost use Rattle.std.specs.Prelude.{◌≡◌, ◌≤◌, ◌<◌, ◌+◌, ◌⊎◌, ℕ, List, length, take, Some, None, IfSome};
 ghost use Rattle.piv_ports.specs.Ports.{Rises, counted, with_bytes};
 ghost use Rattle.piv_cli.specs.Outputs.{Answered, AnsweredInPart, most_input};
 ghost use Rattle.piv_cli.specs.Words.{asked_for};

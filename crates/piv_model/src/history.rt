@@ -1,5 +1,5 @@
 // A card's history: one entry for each thing that happened on it.
-ghost use Rattle.std.specs.Prelude.{◌≡◌, ◌<◌, ◌≤◌, ℕ, [], length, Some, OnOk, OnErr, IfOk};
+ghost use Rattle.std.specs.Prelude.{◌≡◌, ◌<◌, [], length, Some, OnOk, IfOk};
 ghost use Rattle.piv_model.specs.Entries.{entry_of};
 ghost use Rattle.piv_model.specs.Written.{at_place, command_length, HasRoom, IsPushed};
 

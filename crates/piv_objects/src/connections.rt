@@ -1,8 +1,7 @@
 //! The connection description.
 
 ghost use Rattle.std.specs.Prelude.{◌≡◌, ◌↔◌, ℕ, List, IsTrue, IfOk, OnErr};
-ghost use Rattle.std.specs.List.{AllPass};
-ghost use Rattle.piv_objects.specs.Connections.{is_name_byte, IsName, IsConnectionDescription};
+ghost use Rattle.piv_objects.specs.Connections.{IsName, IsConnectionDescription};
 ghost use Rattle.piv_objects.specs.Forms.{IsPartOf};
 
 use crate::elements::only;

@@ -1,6 +1,6 @@
 //! One or two elements of known tags.
 
-ghost use Rattle.std.specs.Prelude.{◌≡◌, List, ℕ, [], ◌∷◌, IfOk, OnErr};
+ghost use Rattle.std.specs.Prelude.{List, ℕ, [], ◌∷◌, IfOk, OnErr};
 ghost use Rattle.ber_tlv.specs.Elements.{element, BeginsWith, AreElements};
 
 use crate::malformed::Malformed;

@@ -1,6 +1,6 @@
 //! GET DATA and the Discovery object.
 
-ghost use Rattle.std.specs.Prelude.{◌≡◌, ◌↔◌, List, ℕ, length, IsTrue, IfOk, OnErr};
+ghost use Rattle.std.specs.Prelude.{◌≡◌, ◌↔◌, List, ℕ, IsTrue, IfOk, OnErr};
 ghost use Rattle.piv_objects.specs.Forms.{IsPartOf, IsObjectTag, IsTagList, before_policy, IsDiscovery};
 
 use crate::elements::only;

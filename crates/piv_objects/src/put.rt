@@ -1,6 +1,6 @@
 //! PUT DATA.
 
-ghost use Rattle.std.specs.Prelude.{◌≡◌, ◌≢◌, ◌↔◌, List, [], ◌∷◌, ℕ, IsTrue, IfOk, OnErr};
+ghost use Rattle.std.specs.Prelude.{◌≢◌, ◌↔◌, List, [], ◌∷◌, ℕ, IsTrue, IfOk, OnErr};
 ghost use Rattle.piv_objects.specs.Forms.{IsObjectTag, IsPut, Put, Object, put_of, ArePartsOf};
 
 use crate::elements::{only, pair};

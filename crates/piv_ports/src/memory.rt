@@ -1,5 +1,5 @@
 // A source and a sink in memory, which fail where they are told to.
-ghost use Rattle.std.specs.Prelude.{◌≡◌, ◌≤◌, ◌<◌, ◌+◌, ◌++◌, ◌⊎◌, ◌↔◌, [], length, take, drop, min, Some, is_some, Contains, IsErr, IsOk, OnOk, OnErr, IfOk, IfSome};
+ghost use Rattle.std.specs.Prelude.{◌≡◌, ◌≤◌, ◌<◌, ◌⊎◌, ◌↔◌, [], length, take, drop, min, Some, is_some, Contains, IsErr, IsOk, OnOk, OnErr, IfOk, IfSome};
 ghost use Rattle.piv_ports.specs.Ports.{AreFirst, Rises, after_first_bytes, counted, with_bytes};
 ghost use Rattle.piv_ports.specs.Memory.{MemSourceState, MemSinkState, after_read, after_failed_read, after_write, after_failed_write};
 

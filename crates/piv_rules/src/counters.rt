@@ -1,6 +1,6 @@
 // The tries of a reference, found by looking back through a history, as plain programs. Entries
 // are given with the newest first.
-ghost use Rattle.std.specs.Prelude.{◌≡◌, ◌≤◌, ℕ, option_map};
+ghost use Rattle.std.specs.Prelude.{◌≡◌, option_map};
 ghost use Rattle.piv_model.specs.Commands.{command_of};
 ghost use Rattle.piv_model.specs.Entries.{entry_of};
 ghost use Rattle.piv_model.specs.Memory.{reference};

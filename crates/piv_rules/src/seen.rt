@@ -1,7 +1,6 @@
 // A situation as a plain program is given it, and the tests of the table's lines in it.
-ghost use Rattle.std.specs.Prelude.{◌≡◌, ◌≤◌, ◌<◌, Bool, sum_by, length};
+ghost use Rattle.std.specs.Prelude.{◌≡◌, ◌≤◌, length};
 ghost use Rattle.piv_model.specs.Memory.{fits, reference, stored};
-ghost use Rattle.piv_rules.specs.Asks.{Ask};
 ghost use Rattle.piv_rules.specs.Answers.{Situation, holds, rule_of, status, is_wrong, answer_to};
 ghost use Rattle.piv_rules.specs.Lent.{ask_of, counter_of, AreFew, AreLines, IsSeen};
 
