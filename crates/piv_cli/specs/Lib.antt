@@ -2,3 +2,4 @@ pub mod Words
 pub mod Lines
 pub mod Outputs
 pub mod Sessions
+pub mod Statuses
