@@ -40,14 +40,16 @@ unfolding answer answer_in answer_to mem count_up tries ask elements_of tag_at l
 WrongPukEndsTheLogin-row = refl
 
 pub PartsJoin-row : PartsJoin
-PartsJoin-row = (refl, refl)
+unfolding answer answer_in answer_to mem count_up tries ask elements_of tag_at length_at value_at parts_at header_of is_pin place_of row_at object_table plain_memory
+PartsJoin-row = (refl, refl, refl)
 
 pub OtherHeadersAreRefused-row : OtherHeadersAreRefused
-OtherHeadersAreRefused-row = refl
+unfolding answer answer_in answer_to mem count_up tries ask elements_of tag_at length_at value_at parts_at header_of is_pin place_of row_at object_table plain_memory
+OtherHeadersAreRefused-row = (refl, refl)
 
 pub PiecesEnd-row : PiecesEnd
 unfolding rest answer answer_in answer_to mem count_up tries ask elements_of tag_at length_at value_at parts_at header_of is_pin place_of row_at object_table plain_memory
-PiecesEnd-row = (refl, refl, refl)
+PiecesEnd-row = (refl, refl, refl, refl)
 
 two-three : ¬ (◌≡◌ {A = ℕ} 2 3)
 two-three e = cc

@@ -5,13 +5,13 @@ use Rattle.piv_model.specs.declared.kinds.Interface.TheVariants.{Contact}
 use Rattle.piv_model.specs.declared.kinds.RefId.TheVariants.{Pin}
 use Rattle.piv_model.specs.declared.kinds.Took.TheVariants.{Nothing, Spent, Done}
 use Rattle.piv_model.specs.Commands.{CardCommand, CardApdu}
-use Rattle.piv_model.specs.Entries.{Past, ◌▸◌, Opened, Call, Rest, Cut, Up}
+use Rattle.piv_model.specs.Entries.{Past, ◌▸◌, Opened, Call, Part, Rest, Bad, Cut, Up}
 use Rattle.piv_model.specs.Base.{Base}
 use Rattle.piv_rules.specs.Forms.{full_aid, short_aid, idle_aid}
 use Rattle.piv_rules.specs.Memories.{tries}
 use Rattle.piv_rules.specs.Answers.{Reply, only, piv_template, answer}
 use Rattle.piv_rules.specs.Losses.{MayTake}
-use Rattle.piv_rules.specs.Legal.{IsAllowed}
+use Rattle.piv_rules.specs.Legal.{IsAllowed, rests_after}
 use Rattle.piv_rules.specs.Acts.{Records, CardRecord, Connect, Connected, Exchange, Replied}
 use Rattle.piv_rules.specs.Frames.{BadFrame, PartFrame, RestFrame, WholeFrame, frame_of, rest}
 use Rattle.piv_rules.specs.Turns.{called, cut_reply}
@@ -177,17 +177,20 @@ apdu class command most = Ok (record { class = class; command = command; most = 
 abbrev pub verify_part : ℕ → List ℕ → CardCommand
 verify_part p2 body = record { ins = 0x20; p1 = 0x00; p2 = p2; body = body }
 
--- a VERIFY in two parts
+-- a VERIFY in two parts: the first adds to the chain, the second ends it, and the joined command logs in
 abbrev pub PartsJoin : Type 0
 PartsJoin =
     (frame_of all_served (apdu 0x10 (verify_part 0x80 (0x31 ∷ 0x32 ∷ 0x33 ∷ 0x34 ∷ [])) 256) None [] ≡ PartFrame)
     × (frame_of all_served (apdu 0x00 (verify_part 0x80 (0x35 ∷ 0x36 ∷ 0xFF ∷ 0xFF ∷ [])) 256)
     (Some (verify_part 0x80 (0x31 ∷ 0x32 ∷ 0x33 ∷ 0x34 ∷ []))) [] ≡ WholeFrame (verify plain_pin) 256)
+    × (words plain (after plain start (select full_aid ∷ []) ▸ Part 1) (verify plain_pin ∷ query ∷ []) ≡ 0x9000 ∷ 0x9000 ∷ [])
 
--- a part with another header is refused
+-- a part with another header is refused, and no try is spent
 abbrev pub OtherHeadersAreRefused : Type 0
-OtherHeadersAreRefused = frame_of all_served (apdu 0x00 (verify_part 0x81 (0x35 ∷ 0x36 ∷ 0xFF ∷ 0xFF ∷ [])) 256)
-    (Some (verify_part 0x80 (0x31 ∷ 0x32 ∷ 0x33 ∷ 0x34 ∷ []))) [] ≡ BadFrame 0x6883
+OtherHeadersAreRefused =
+    (frame_of all_served (apdu 0x00 (verify_part 0x81 (0x35 ∷ 0x36 ∷ 0xFF ∷ 0xFF ∷ [])) 256)
+    (Some (verify_part 0x80 (0x31 ∷ 0x32 ∷ 0x33 ∷ 0x34 ∷ []))) [] ≡ BadFrame 0x6883)
+    × (words plain (after plain start (select full_aid ∷ []) ▸ Part 1 ▸ Bad 1 0x6883) (query ∷ []) ≡ 0x63C3 ∷ [])
 
 abbrev pub get_response_apdu : Result CardApdu ℕ
 get_response_apdu = apdu 0x00 (record { ins = 0xC0; p1 = 0x00; p2 = 0x00; body = [] }) 256
@@ -223,6 +226,7 @@ PiecesEnd =
     (chuid_record.answer ≡ Replied (0x53 ∷ 0x04 ∷ 0x3E ∷ 0x00 ∷ []) 0x6102)
     × (frame_of all_served get_response_apdu None (rest plain chuid_given 1) ≡ RestFrame (0xFE ∷ 0x00 ∷ []) 0x9000)
     × (frame_of all_served get_response_apdu None (rest plain (chuid_given ▸ rest_record) 1) ≡ BadFrame 0x6985)
+    × (rests_after plain (after plain start (select full_aid ∷ get_chuid ∷ [])) 1 0 ≡ true)
 
 -- ---- losses of power
 
