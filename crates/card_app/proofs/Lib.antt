@@ -1,5 +1,4 @@
 pub mod AskLemmas
 pub mod Numbers
 pub mod StandsLemmas
-pub mod PlainLemmas
 pub mod TagLemmas

@@ -8,7 +8,8 @@ use Rattle.piv_model.specs.declared.kinds.Interface.{Interface}
 use Rattle.piv_model.specs.declared.kinds.Took.{Took}
 use Rattle.piv_model.specs.Commands.{CardCommand, CardApdu}
 use Rattle.piv_model.specs.Framing.{framing}
-use Rattle.piv_model.specs.Memory.{Memory, StoreState}
+use Rattle.piv_model.specs.Memory.{Memory}
+use Rattle.piv_model.specs.Stores.{StoreState}
 use Rattle.piv_model.specs.Objects.{place_of}
 use Rattle.piv_model.specs.Entries.{CardEntry, Past, Opened, Call, Bad}
 use Rattle.piv_model.specs.Base.{Base, Profile, profile, profile_of}
@@ -40,7 +41,8 @@ use Rattle.card_app.proofs.AskLemmas.{ask-select, ask-get, ask-other}
 use Rattle.std.proofs.Common.{subst}
 use Rattle.std.specs.Prelude.{option_and_then, IsSomeAnd, is_some, ◌+◌}
 use Rattle.piv_model.specs.declared.history.Refusal.{Refusal}
-use Rattle.piv_rules.specs.Forms.{full_aid, short_aid, idle_aid, tag_named}
+use Rattle.piv_model.specs.Forms.{full_aid}
+use Rattle.piv_rules.specs.Forms.{short_aid, idle_aid, tag_named}
 
 -- an ask that changes no memory and draws no block
 abbrev is_reading : Ask → Bool

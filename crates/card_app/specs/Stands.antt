@@ -2,7 +2,8 @@
 use Rattle.std.specs.Prelude.{◌≡◌, ◌≤◌, ℕ, length, ◌==◌, Bool, true, false, List, [], Option, Some, None, IsTrue, IsSomeAnd}
 use Rattle.piv_model.specs.declared.kinds.Interface.{Interface}
 use Rattle.piv_model.specs.Commands.{CardApdu, command_of}
-use Rattle.piv_model.specs.Memory.{Memory, StoreState}
+use Rattle.piv_model.specs.Memory.{Memory}
+use Rattle.piv_model.specs.Stores.{StoreState}
 use Rattle.piv_model.specs.Entries.{CardEntry, Past, Opened, Call, Bad}
 use Rattle.piv_model.specs.Base.{Base, profile_of}
 use Rattle.piv_rules.specs.Acts.{CardAnswer, Connect, Exchange, Connected, Replied, CardRecord, Records, entries}

@@ -76,7 +76,7 @@ impl<S: Store> Card<S> {
     /// store is handed back.
     pub fn new(alloc: Global, store: S) -> Result<Card<S>, CardFault<S>>
         requires { IsTrue (S.state store).on }
-        ensures stands { IfOk result (λ card. (B : Base) → B.serves ≡ served → length B.memory.objects ≡ 33
+        ensures stands { IfOk result (λ card. (B : Base) → B.serves ≡ served
             → (S.state store).mem ≡ Some B.memory → StandsFor S.state card B []) }
         ensures free { IfOk result (λ card. (c : ℕ) → IsAttached card c → ⊥) }
         ensures on { IfOk result (λ card. HasPower S.state card) }

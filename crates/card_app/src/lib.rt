@@ -6,11 +6,9 @@ mod buffer;
 mod card;
 mod commands;
 mod get_data;
-mod plain_store;
 mod select;
 #[cfg(test)]
 mod tests;
 mod words;
 
 pub use card::{Card, CardFault, Outcome};
-pub use plain_store::PlainStore;

@@ -1,7 +1,8 @@
-ghost use Rattle.std.specs.Prelude.{None, true, IsTrue};
+ghost use Rattle.std.specs.Prelude.{IsTrue, IfOk};
 
-use crate::{Card, Outcome, PlainStore};
-use piv_model::{Interface, ObjectId, Store};
+use crate::{Card, Outcome};
+use memory_store::MemoryStore;
+use piv_model::{Interface, Store, object_by_tag, plain_start};
 use std::alloc::Global;
 use std::process::Abort;
 use std::test::Fail;
@@ -16,19 +17,24 @@ const GET_CHUID: [u8; 10] = [0x00, 0xCB, 0x3F, 0xFF, 0x05, 0x5C, 0x03, 0x5F, 0xC
 
 const GET_PRINTED: [u8; 10] = [0x00, 0xCB, 0x3F, 0xFF, 0x05, 0x5C, 0x03, 0x5F, 0xC1, 0x09];
 
-// A store of which nothing is told, with 300 bytes C3 at each place.
-#[derive(Clone, Copy)]
-struct LongStore;
+fn plain_store(alloc: Global) -> Result<MemoryStore, Fail>
+    ensures { IfOk result (λ store. IsTrue (⟦<MemoryStore as Store>⟧.state store).on) }
+{
+    let start = plain_start(alloc)?;
+    Ok(MemoryStore::new(alloc, &start, Vec::new(alloc))?)
+}
 
-impl Store for LongStore {
-    ghost state = { λ _. record { mem = None; on = true } };
-
-    fn length(&self, _id: ObjectId) -> usize {
-        300
-    }
-
-    fn fill(&self, _id: ObjectId, out: &mut [u8]) {
-        out.fill(0xC3);
+// A store that tells nothing of itself, whose CHUID has 300 bytes C3.
+fn long_store(alloc: Global) -> Result<MemoryStore, Fail>
+    ensures { IfOk result (λ store. IsTrue (⟦<MemoryStore as Store>⟧.state store).on) }
+{
+    let mut store = plain_store(alloc)?.untold();
+    let Some(chuid) = object_by_tag(&GET_CHUID[7..]) else {
+        return Err(Fail::from("no CHUID"));
+    };
+    match store.put(chuid, &[0xC3; 300]) {
+        Ok(()) => Ok(store),
+        Err(_) => Err(Fail::from("not put")),
     }
 }
 
@@ -63,11 +69,11 @@ fn an_object_is_given_where_its_rule_holds(rt: HostRuntime) -> Result<(), Fail> 
     let alloc = rt.alloc();
     for interface in [Interface::Contact, Interface::Contactless] {
         assert_eq!(rt;
-            get(&rt, alloc, PlainStore, interface, &GET_CHUID)?,
+            get(&rt, alloc, plain_store(alloc)?, interface, &GET_CHUID)?,
             (6, 0x9000)
         );
         assert_eq!(rt;
-            get(&rt, alloc, PlainStore, interface, &GET_PRINTED)?,
+            get(&rt, alloc, plain_store(alloc)?, interface, &GET_PRINTED)?,
             (0, 0x6982)
         );
     }
@@ -76,14 +82,20 @@ fn an_object_is_given_where_its_rule_holds(rt: HostRuntime) -> Result<(), Fail> 
 
 #[test]
 fn a_long_reply_is_cut_to_256_bytes(rt: HostRuntime) -> Result<(), Fail> {
-    let given = get(&rt, rt.alloc(), LongStore, Interface::Contact, &GET_CHUID)?;
+    let given = get(
+        &rt,
+        rt.alloc(),
+        long_store(rt.alloc())?,
+        Interface::Contact,
+        &GET_CHUID,
+    )?;
     assert_eq!(rt; given, (256, 0x6130));
     Ok(())
 }
 
 #[test]
 fn one_connection_is_attached(rt: HostRuntime) -> Result<(), Fail> {
-    let Ok(mut card) = Card::new(rt.alloc(), PlainStore) else {
+    let Ok(mut card) = Card::new(rt.alloc(), plain_store(rt.alloc())?) else {
         return Err(Fail::from("no memory"));
     };
     assert!(rt; card.attach(1, Interface::Contact));

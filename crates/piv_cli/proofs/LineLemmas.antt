@@ -1,13 +1,13 @@
 -- What lines write, one after the other.
 use Rattle.std.proofs.Common.{◌≡◌, ℕ, true, length, arith, List, [], ◌∷◌, ◌++◌, refl, ap, sym, subst, ◌∙◌}
 use Rattle.std.proofs.lemmas.List.{append-nil, append_assoc}
-use Rattle.piv_model.specs.Memory.{StoreState}
+use Rattle.piv_model.specs.Stores.{StoreState}
 use Rattle.piv_model.specs.Base.{Base}
 use Rattle.piv_rules.specs.Acts.{Records}
 use Rattle.card_app.specs.declared.card.Card.{Card}
 use Rattle.std.specs.Prelude.{◌==◌, filter, take, Option, Some, None, IfSome}
 use Rattle.piv_ports.specs.Ports.{with_bytes}
-use Rattle.piv_rules.specs.PlainCard.{plain_base}
+use Rattle.piv_model.specs.PlainCard.{plain_base}
 use Rattle.card_app.specs.Serves.{served}
 use Rattle.piv_cli.specs.Outputs.{Answered, AnsweredInPart}
 use Rattle.std.specs.Str.Lines.{strip_carriage_return}

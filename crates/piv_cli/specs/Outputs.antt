@@ -1,7 +1,7 @@
 -- What each command writes, and what is so when the program ends.
 use Rattle.std.specs.Prelude.{◌≡◌, ℕ, List, take, Option, Some, [], IfSome}
 use Rattle.piv_ports.specs.Ports.{with_bytes}
-use Rattle.piv_rules.specs.PlainCard.{plain_base}
+use Rattle.piv_model.specs.PlainCard.{plain_base}
 use Rattle.card_app.specs.Serves.{served}
 use Rattle.piv_cli.specs.Lines.{AreLines}
 

@@ -1,6 +1,6 @@
 -- What is kept between the lines of an input.
 use Rattle.std.specs.Prelude.{◌≡◌, ◌≤◌, ℕ, List, ◌∷◌, ◌++◌, Bool, if◌then◌else◌}
-use Rattle.piv_model.specs.Memory.{StoreState}
+use Rattle.piv_model.specs.Stores.{StoreState}
 use Rattle.piv_model.specs.Base.{Base}
 use Rattle.piv_rules.specs.Acts.{Exchange, CardRecord, Records, entries}
 use Rattle.piv_rules.specs.Connections.{epoch, side}

@@ -84,7 +84,7 @@ pub fn answer_lines<S: Store + Drop>(
     input: &[u8],
 ) -> Result<Vec<u8>, AllocError>
     requires { IsTrue (S.state store).on }
-    ensures { (B : Base) → B.serves ≡ served → length B.memory.objects ≡ 33 → (S.state store).mem ≡ Some B.memory
+    ensures { (B : Base) → B.serves ≡ served → (S.state store).mem ≡ Some B.memory
         → IfOk result (λ out. AreLines B input.now out.items) }
 {
     let Ok(mut card) = Card::new(alloc, store) else {

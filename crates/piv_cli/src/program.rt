@@ -1,5 +1,6 @@
 // What the program does, over any source and sink.
-ghost use Rattle.std.specs.Prelude.{◌≡◌, ◌≤◌, ◌<◌, ◌+◌, ◌⊎◌, ℕ, List, length, take, Some, None, IfSome};
+ghost use Rattle.std.specs.Prelude.{◌≡◌, ◌≤◌, ◌<◌, ◌+◌, ◌⊎◌, ℕ, List, length, take, Some, None, IsTrue, IfOk, IfSome};
+ghost use Rattle.piv_model.specs.PlainCard.{plain_memory};
 ghost use Rattle.piv_ports.specs.Ports.{Rises, counted, with_bytes};
 ghost use Rattle.piv_cli.specs.Outputs.{Answered, AnsweredInPart, most_input};
 ghost use Rattle.piv_cli.specs.Words.{asked_for};
@@ -7,8 +8,8 @@ ghost use Rattle.piv_cli.specs.Words.{asked_for};
 use crate::lines::answer_lines;
 use crate::status::Status;
 use crate::words::{Request, Words};
-use card_app::PlainStore;
-use piv_model::Limit;
+use memory_store::MemoryStore;
+use piv_model::{Limit, NoMemory, Store, plain_start};
 use piv_ports::{ReadStop, Sink, Source, WriteStop, read_all, write_all};
 use std::alloc::Global;
 
@@ -100,6 +101,15 @@ fn write_out<K: Sink>(sink: &mut K, bytes: &[u8]) -> Status
     }
 }
 
+// The store of the plain card, which never loses power.
+fn plain_store(alloc: Global) -> Result<MemoryStore, NoMemory>
+    ensures on { IfOk result (λ store. IsTrue (⟦<MemoryStore as Store>⟧.state store).on) }
+    ensures memory { IfOk result (λ store. (⟦<MemoryStore as Store>⟧.state store).mem ≡ Some plain_memory) }
+{
+    let start = plain_start(alloc)?;
+    MemoryStore::new(alloc, &start, Vec::new(alloc))
+}
+
 // Reads lines of APDUs, and writes what the plain card replies.
 fn apdu<S: Source, K: Sink>(alloc: Global, source: &mut S, sink: &mut K) -> Status
     ensures done { result ≡ Status.Done → Answered (S.left source.old) (S.left source.new) (K.taken sink.old) (K.taken sink.new) }
@@ -125,7 +135,10 @@ fn apdu<S: Source, K: Sink>(alloc: Global, source: &mut S, sink: &mut K) -> Stat
         Err(ReadStop::TooLarge) => return Status::TooLarge { what: Limit::Input },
         Err(ReadStop::NoMemory) => return Status::NoMemory,
     };
-    match answer_lines(alloc, PlainStore, &input) {
+    let Ok(store) = plain_store(alloc) else {
+        return Status::NoMemory;
+    };
+    match answer_lines(alloc, store, &input) {
         Ok(output) => write_out(sink, &output),
         Err(_) => Status::NoMemory,
     }

@@ -1,8 +1,9 @@
 -- The card at the beginning: its memory, its random bytes, and the instructions that this build serves
 -- (this project's own; the memory's parts are those of SP 800-73-4 part 1).
-use Rattle.std.specs.Prelude.{ℕ, Bool, true, ◌&&◌, ◌==◌, nat_le, List, length, is_some, Option, Some, None}
+use Rattle.std.specs.Prelude.{ℕ, Bool, ◌&&◌, ◌==◌, List, length, is_some}
 use Rattle.std.specs.List.{list_any}
-use Rattle.piv_model.specs.Memory.{Memory, Reference}
+use Rattle.piv_model.specs.Memory.{Memory}
+use Rattle.piv_model.specs.Sound.{is_limited, is_limited_if_any}
 
 pub record Base : Type 0 where
   pub memory : Memory
@@ -31,14 +32,6 @@ profile B = profile_of B.serves B.memory
 -- an instruction that this build serves
 abbrev pub is_served : List ℕ → ℕ → Bool
 is_served serves ins = list_any (λ x. x == ins) serves
-
--- a limit is 1 to 15, and the tries are at most it
-abbrev pub is_limited : Reference → Bool
-is_limited x = nat_le 1 x.limit && nat_le x.limit 15 && nat_le x.tries x.limit
-
-abbrev pub is_limited_if_any : Option Reference → Bool
-is_limited_if_any None = true
-is_limited_if_any (Some x) = is_limited x
 
 -- the limits and tries of a base, and the numbers of its objects and of its random bytes, are those of a card
 unfoldable pub is_valid : Base → Bool

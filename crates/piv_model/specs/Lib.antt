@@ -2,10 +2,17 @@ pub mod Rules
 pub mod Objects
 pub mod Commands
 pub mod Framing
+pub mod Forms
 pub mod Memory
+pub mod Changes
+pub mod Sound
+pub mod Stores
+pub mod Starts
+pub mod PlainCard
 pub mod Rows
 pub mod Entries
 pub mod Cipher
 pub mod Field
 pub mod Written
 pub mod Base
+pub mod SoundLaws

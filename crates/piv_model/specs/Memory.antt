@@ -1,8 +1,9 @@
--- What a card's memory holds, and what is known of a store (SP 800-73-4 part 1; the budget in blocks and the
--- losses of power are this project's own).
+-- What a card's memory holds (SP 800-73-4 part 1; the budget in blocks is this project's own).
 use Rattle.std.specs.Prelude.{ℕ, ◌+◌, ◌/◌, Bool, true, ◌&&◌, nat_le, List, [], length, sum_by, Option, is_some, slice_index_or, unwrap_or}
 use Rattle.piv_model.specs.declared.kinds.RefId.{RefId}
 use Rattle.piv_model.specs.declared.kinds.RefId.TheVariants.{Pin, Puk, GlobalPin}
+use Rattle.piv_model.specs.declared.kinds.KeyId.{KeyId}
+use Rattle.piv_model.specs.declared.kinds.KeyId.TheVariants.{AdminKey, CardAuth}
 
 -- a reference: its retry limit, the tries left, and its secret
 pub record Reference : Type 0 where
@@ -40,6 +41,10 @@ reference m Pin = m.pin
 reference m Puk = m.puk
 reference m GlobalPin = unwrap_or m.global no_reference
 
+abbrev pub key_at : Memory → KeyId → CardKey
+key_at m AdminKey = m.admin
+key_at m CardAuth = m.card_auth
+
 -- the object of a place
 abbrev pub stored : Memory → ℕ → List ℕ
 stored m place = slice_index_or m.objects place []
@@ -48,11 +53,10 @@ stored m place = slice_index_or m.objects place []
 abbrev pub blocks : ℕ → ℕ
 blocks n = (n + 63) / 64
 
+-- the blocks of all objects present
+abbrev pub blocks_used : List (List ℕ) → ℕ
+blocks_used objects = sum_by (λ o. blocks (length o)) objects
+
 -- there is room for one more value beside all objects present
 unfoldable pub fits : Memory → List ℕ → Bool
-fits m v = nat_le (length v) 16384 && nat_le (blocks (length v) + sum_by (λ o. blocks (length o)) m.objects) m.budget
-
--- what is known of a store: its memory, where its device tells its bytes, and whether it has power
-pub record StoreState : Type 0 where
-  pub mem : Option Memory
-  pub on : Bool
+fits m v = nat_le (length v) 16384 && nat_le (blocks (length v) + blocks_used m.objects) m.budget

@@ -71,6 +71,14 @@ impl Model for ObjectId {
 }
 
 impl ObjectId {
+    // The object of a place.
+    pub(crate) fn at(place: u8) -> ObjectId
+        requires { place ≤ 32 }
+        ensures { result ≡ place }
+    {
+        ObjectId { place }
+    }
+
     /// The object's place in the table.
     pub fn place(self) -> u8
         ensures value { result ≡ self }

@@ -3,7 +3,8 @@ use Rattle.std.proofs.Common.{◌≡◌, ◌≢◌, ℕ, Bool, false, true≢fal
 use Rattle.std.proofs.lemmas.List.{length-drop, take-append-drop}
 use Rattle.std.specs.Prelude.{IsTrue, ◌↔◌, IfOk}
 use Rattle.ber_tlv.specs.Elements.{element, AreElements}
-use Rattle.piv_objects.specs.Forms.{IsObjectTag, IsTagList, Put, Object, Discovery, IsPut, ArePartsOf, put_of, before_policy}
+use Rattle.piv_objects.specs.Forms.{IsObjectTag, IsTagList, Put, Object, Discovery, IsPut, ArePartsOf, put_of}
+use Rattle.piv_model.specs.Forms.{discovery_head}
 use Rattle.piv_objects.specs.declared.put.PutFields.{PutFields}
 use Rattle.piv_objects.specs.declared.malformed.Malformed.{Malformed}
 use Rattle.piv_objects.proofs.Begins.{only_one, pair_one, part_first, part_only, part_second}
@@ -46,8 +47,8 @@ two (a ∷ []) e = absurd (omega arith)
 two (a ∷ b ∷ []) e = refl
 two (a ∷ b ∷ c ∷ xs) e = absurd (omega arith)
 
-pub policy_stands : (value front policy : List ℕ) (a b : ℕ) → length value ≡ 18 → front ≡ take 16 value → policy ≡ drop 16 value → front ≡ before_policy → get_or policy 0 0 ≡ a → get_or policy 1 0 ≡ b → value ≡ before_policy ++ a ∷ b ∷ []
+pub policy_stands : (value front policy : List ℕ) (a b : ℕ) → length value ≡ 18 → front ≡ take 16 value → policy ≡ drop 16 value → front ≡ discovery_head → get_or policy 0 0 ≡ a → get_or policy 1 0 ≡ b → value ≡ discovery_head ++ a ∷ b ∷ []
 policy_stands value front policy a b len first last is pa pb =
     let size : length policy ≡ 2 = omega (arith, ap length last, length-drop 16 value) in
     let ends : policy ≡ a ∷ b ∷ [] = two policy size ∙ ap (λ (x : ℕ). x ∷ get_or policy 1 0 ∷ []) pa ∙ ap (λ (x : ℕ). a ∷ x ∷ []) pb in
-    sym (take-append-drop 16 value) ∙ ap (λ (x : List ℕ). x ++ drop 16 value) (sym first ∙ is) ∙ ap (λ (x : List ℕ). before_policy ++ x) (sym last ∙ ends)
+    sym (take-append-drop 16 value) ∙ ap (λ (x : List ℕ). x ++ drop 16 value) (sym first ∙ is) ∙ ap (λ (x : List ℕ). discovery_head ++ x) (sym last ∙ ends)

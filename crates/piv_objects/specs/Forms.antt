@@ -2,6 +2,7 @@
 -- (SP 800-73-4 part 2, GET DATA and PUT DATA, and part 1, Discovery Object).
 use Rattle.std.specs.Prelude.{◌≡◌, ◌≢◌, ◌⊎◌, ℕ, ◌≤◌, List, [], ◌∷◌, ◌++◌, length}
 use Rattle.ber_tlv.specs.Elements.{element, AreElements}
+use Rattle.piv_model.specs.Forms.{discovery_head}
 use Rattle.piv_objects.specs.declared.put.PutFields.{PutFields}
 use Rattle.piv_objects.specs.declared.put.PutFields.TheVariants as lent
 
@@ -39,14 +40,6 @@ IsPut bytes (Object tag value) =
     × IsObjectTag tag × (tag ≢ 0x7E ∷ [])
 IsPut bytes (Discovery value) = AreElements bytes (element 0x7E value ∷ [])
 
--- the full AID of the PIV card application
-abbrev pub full_aid : List ℕ
-full_aid = 0xA0 ∷ 0x00 ∷ 0x00 ∷ 0x03 ∷ 0x08 ∷ 0x00 ∷ 0x00 ∷ 0x10 ∷ 0x00 ∷ 0x01 ∷ 0x00 ∷ []
-
--- what stands before the policy: the full AID under 4F, and the header of 5F2F
-abbrev pub before_policy : List ℕ
-before_policy = 0x4F ∷ 0x0B ∷ full_aid ++ 0x5F ∷ 0x2F ∷ 0x02 ∷ []
-
 -- The PIN usage policy: the card's PIN alone, or with the Global PIN, of which either may be the
 -- primary one.
 abbrev pub IsPolicy : List ℕ → Type 0
@@ -55,4 +48,4 @@ IsPolicy policy =
 
 -- The value of the Discovery object: the full AID, and the policy.
 abbrev pub IsDiscovery : List ℕ → List ℕ → Type 0
-IsDiscovery value policy = (value ≡ before_policy ++ policy) × IsPolicy policy
+IsDiscovery value policy = (value ≡ discovery_head ++ policy) × IsPolicy policy

@@ -1,7 +1,8 @@
 //! GET DATA and the Discovery object.
 
 ghost use Rattle.std.specs.Prelude.{◌≡◌, ◌↔◌, List, ℕ, IsTrue, IfOk, OnErr};
-ghost use Rattle.piv_objects.specs.Forms.{IsPartOf, IsObjectTag, IsTagList, before_policy, IsDiscovery};
+ghost use Rattle.piv_objects.specs.Forms.{IsPartOf, IsObjectTag, IsTagList, IsDiscovery};
+ghost use Rattle.piv_model.specs.Forms.{discovery_head};
 
 use crate::elements::only;
 use crate::malformed::Malformed;
@@ -29,14 +30,14 @@ pub fn tag_list(body: &[u8]) -> Result<&[u8], Malformed>
 }
 
 /// What stands before the policy.
-const BEFORE_POLICY: [u8; 16] = [
+const DISCOVERY_HEAD: [u8; 16] = [
     0x4F, 0x0B, 0xA0, 0x00, 0x00, 0x03, 0x08, 0x00, 0x00, 0x10, 0x00, 0x01, 0x00, 0x5F, 0x2F, 0x02,
 ];
 
-fn is_before_policy(front: &[u8]) -> bool
-    ensures { IsTrue result ↔ (front.now ≡ before_policy) }
+fn is_discovery_head(front: &[u8]) -> bool
+    ensures { IsTrue result ↔ (front.now ≡ discovery_head) }
 {
-    front == BEFORE_POLICY.as_slice()
+    front == DISCOVERY_HEAD.as_slice()
 }
 
 /// The PIN usage policy of a Discovery object: 40 00, 60 10 or 60 20
@@ -49,7 +50,7 @@ pub fn discovery(value: &[u8]) -> Result<[u8; 2], Malformed>
         return Err(Malformed);
     }
     let (front, policy) = value.split_at(16);
-    if !is_before_policy(front) {
+    if !is_discovery_head(front) {
         return Err(Malformed);
     }
     match (policy[0], policy[1]) {

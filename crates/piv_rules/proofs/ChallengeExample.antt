@@ -12,7 +12,7 @@ use Rattle.piv_rules.specs.Asks.{ask}
 use Rattle.piv_rules.specs.Memories.{tries, count_up, mem}
 use Rattle.piv_rules.specs.RandomBlocks.{block_from}
 use Rattle.piv_rules.specs.Answers.{answer, answer_in, answer_to}
-use Rattle.piv_rules.specs.PlainCard.{plain_memory, plain_admin_key}
+use Rattle.piv_model.specs.PlainCard.{plain_memory, plain_admin_key}
 use Rattle.piv_rules.specs.Examples.{ChallengeIsTheBlock, ChallengeIsAnsweredOnce, first_block, response}
 
 -- the cipher over the block

@@ -4,13 +4,13 @@ use Rattle.ber_tlv.specs.Elements.{elements_of, header_of}
 use Rattle.ber_tlv.specs.Reading.{tag_at, length_at, value_at, parts_at}
 use Rattle.piv_model.specs.Memory.{Memory}
 use Rattle.piv_model.specs.Objects.{place_of, row_at, object_table}
-use Rattle.piv_rules.specs.Forms.{is_pin}
+use Rattle.piv_model.specs.Forms.{is_pin}
 use Rattle.piv_rules.specs.Asks.{ask}
 use Rattle.piv_rules.specs.Memories.{tries, count_up, mem}
 use Rattle.piv_rules.specs.Answers.{answer, answer_in, answer_to}
 use Rattle.piv_rules.specs.Frames.{rest}
 use Rattle.piv_rules.specs.Plans.{cost}
-use Rattle.piv_rules.specs.PlainCard.{plain_memory}
+use Rattle.piv_model.specs.PlainCard.{plain_memory}
 use Rattle.piv_model.specs.Base.{is_valid}
 use Rattle.std.specs.Prelude.{IsTrue}
 use Rattle.piv_rules.specs.Examples.{plain, LoginOpens, IdleEndsTheLogin, WrongPinsBlock, PukUnblocks, ChangeLogsIn, WrongPukEndsTheLogin, PartsJoin, OtherHeadersAreRefused, PiecesEnd, WrongLoginLost, LossesBlock, RightLoginLost, RightLoginDone, LossesArePlanned}

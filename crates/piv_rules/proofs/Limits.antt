@@ -11,11 +11,13 @@ use Rattle.piv_rules.specs.Memories.{same_reference, fills, spends, tries, mem, 
 use Rattle.piv_model.specs.Commands.{CardCommand}
 use Rattle.piv_model.specs.Entries.{CardEntry, Past, Opened, Call, Up}
 use Rattle.piv_rules.specs.Lookback.{count_after, some_entry}
-use Rattle.piv_model.specs.Base.{Base, Profile, profile, is_limited, is_limited_if_any, is_valid}
+use Rattle.piv_model.specs.Base.{Base, Profile, profile, is_valid}
+use Rattle.piv_model.specs.Sound.{is_limited, is_limited_if_any}
 use Rattle.piv_model.specs.Memory.{has, Memory, Reference, reference, no_reference}
 use Rattle.std.specs.Prelude.{unwrap_or}
 use Rattle.piv_rules.specs.Asks.{Ask, Compare, Purpose, Verify, Change, Unblock, ask}
-use Rattle.piv_rules.specs.Effects.{change_reference, one_less, memory_after}
+use Rattle.piv_model.specs.Changes.{change_reference, one_less}
+use Rattle.piv_rules.specs.Effects.{memory_after}
 use Rattle.piv_rules.specs.Answers.{answer, answer_in, answer_to, Situation, situation, is_select, select_reply}
 use Rattle.piv_rules.specs.Legal.{IsLegal, IsAllowed}
 use Rattle.piv_rules.specs.Losses.{MayTake}

@@ -11,7 +11,8 @@ use Rattle.piv_model.specs.Base.{Profile, profile, profile_of, Base}
 use Rattle.piv_model.specs.Memory.{Memory, Reference, stored, has, no_reference, reference}
 use Rattle.piv_rules.specs.Asks.{Ask, Refused, Select, Get, Put, Logout, Query, Compare, Internal, AskChallenge, External, AskWitness, Mutual, Verify, Change, Unblock, ask}
 use Rattle.piv_rules.specs.Memories.{did, count_up, mem, object, reference_now, filled_by, did_so, spent_by, secret_by, object_by}
-use Rattle.piv_rules.specs.Effects.{memory_by, memory_after, change_reference, full, renewed, one_less}
+use Rattle.piv_model.specs.Changes.{change_reference, full, renewed, one_less}
+use Rattle.piv_rules.specs.Effects.{memory_by, memory_after}
 use Rattle.piv_rules.proofs.Steps.{tries-step}
 
 -- a value set below the places changes none of them

@@ -1,6 +1,6 @@
 -- What a command asks, before anything is known of the connection that sends it. In each table the first test that
 -- fits decides (SP 800-73-4 part 2, the commands of the card edge; the order of the tests is this project's own).
-use Rattle.std.specs.Prelude.{ℕ, Bool, true, false, not, ◌&&◌, ◌||◌, ◌==◌, List, length, take, drop, Option, Some, None, option_and_then, if◌then◌else◌}
+use Rattle.std.specs.Prelude.{ℕ, Bool, not, ◌&&◌, ◌||◌, ◌==◌, List, length, take, drop, Option, Some, None, option_and_then, if◌then◌else◌}
 use Rattle.std.specs.Str.{bytes_eq}
 use Rattle.ber_tlv.specs.Elements.{Element, elements_of}
 use Rattle.piv_model.specs.declared.kinds.RefId.{RefId}
@@ -10,7 +10,8 @@ use Rattle.piv_model.specs.declared.kinds.KeyId.TheVariants.{AdminKey, CardAuth}
 use Rattle.piv_model.specs.Commands.{CardCommand}
 use Rattle.piv_model.specs.Objects.{place_of}
 use Rattle.piv_model.specs.Base.{Profile, is_served}
-use Rattle.piv_rules.specs.Forms.{full_aid, short_aid, idle_aid, is_pin, tag_named, PutForm, DiscoveryForm, ObjectForm, put_named, Field, Absent, Empty, Sixteen, field, are_fields, fields_of}
+use Rattle.piv_model.specs.Forms.{full_aid, is_pin, is_pair, is_puk_and_pin}
+use Rattle.piv_rules.specs.Forms.{short_aid, idle_aid, tag_named, PutForm, DiscoveryForm, ObjectForm, put_named, Field, Absent, Empty, Sixteen, field, are_fields, fields_of}
 
 pub data Application : Type 0 where
   Piv : Application
@@ -107,16 +108,9 @@ verify_ask m k =
 abbrev pub changed_reference : Profile → ℕ → Option RefId
 changed_reference m p2 = if p2 == 0x81 then Some Puk else verified_reference m p2
 
--- the values of this reference have the form of a PIN
-abbrev pub has_pin_form : RefId → Bool
-has_pin_form Pin = true
-has_pin_form GlobalPin = true
-has_pin_form Puk = false
-
 abbrev pub change_form : RefId → CardCommand → Ask
 change_form r k =
-    if (length k.body == 16) && (not (has_pin_form r) || (is_pin (take 8 k.body) && is_pin (drop 8 k.body)))
-    then Compare r (take 8 k.body) (Change (drop 8 k.body))
+    if is_pair r k.body then Compare r (take 8 k.body) (Change (drop 8 k.body))
     else Refused 0x6A80
 
 abbrev pub change_ask : Profile → CardCommand → Ask
@@ -129,7 +123,7 @@ abbrev pub unblock_ask : CardCommand → Ask
 unblock_ask k =
     if not (k.p1 == 0x00) then Refused 0x6A86
     else if not (k.p2 == 0x80) then Refused 0x6A88
-    else if (length k.body == 16) && is_pin (drop 8 k.body) then Compare Puk (take 8 k.body) (Unblock (drop 8 k.body))
+    else if is_puk_and_pin k.body then Compare Puk (take 8 k.body) (Unblock (drop 8 k.body))
     else Refused 0x6A80
 
 -- GENERAL AUTHENTICATE: the key, and the fields Witness, Challenge and Response of its template

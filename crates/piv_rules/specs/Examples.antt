@@ -7,7 +7,8 @@ use Rattle.piv_model.specs.declared.kinds.Took.TheVariants.{Nothing, Spent, Done
 use Rattle.piv_model.specs.Commands.{CardCommand, CardApdu}
 use Rattle.piv_model.specs.Entries.{Past, ◌▸◌, Opened, Call, Part, Rest, Bad, Cut, Up}
 use Rattle.piv_model.specs.Base.{Base}
-use Rattle.piv_rules.specs.Forms.{full_aid, short_aid, idle_aid}
+use Rattle.piv_model.specs.Forms.{full_aid}
+use Rattle.piv_rules.specs.Forms.{short_aid, idle_aid}
 use Rattle.piv_rules.specs.Memories.{tries}
 use Rattle.piv_rules.specs.Answers.{Reply, only, piv_template, answer}
 use Rattle.piv_rules.specs.Losses.{MayTake}
@@ -16,7 +17,7 @@ use Rattle.piv_rules.specs.Acts.{Records, CardRecord, Connect, Connected, Exchan
 use Rattle.piv_rules.specs.Frames.{BadFrame, PartFrame, RestFrame, WholeFrame, frame_of, rest}
 use Rattle.piv_rules.specs.Turns.{called, cut_reply}
 use Rattle.piv_rules.specs.Plans.{made, ArePlanned}
-use Rattle.piv_rules.specs.PlainCard.{plain_base, plain_pin, plain_puk, plain_printed}
+use Rattle.piv_model.specs.PlainCard.{plain_base, plain_pin, plain_puk, plain_printed}
 
 -- the plain card where every instruction is served
 abbrev pub all_served : List ℕ

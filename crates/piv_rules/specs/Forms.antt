@@ -1,46 +1,19 @@
--- The forms of what a command bears: application names, PINs, the Discovery Object, the tag lists of GET DATA and PUT
--- DATA, and the dynamic authentication template (SP 800-73-4 part 1, the Discovery Object; part 2, SELECT, GET DATA,
--- PUT DATA, VERIFY and GENERAL AUTHENTICATE). The name of the idle application is this project's own.
-use Rattle.std.specs.Prelude.{ℕ, Bool, not, ◌&&◌, ◌||◌, ◌==◌, nat_le, List, [], ◌∷◌, ◌++◌, length, take, drop, count_by, find, Option, Some, None, slice_index, if◌then◌else◌}
+-- The forms of what a command bears: application names, the tag lists of GET DATA and PUT DATA, and the dynamic
+-- authentication template (SP 800-73-4 part 2, SELECT, GET DATA, PUT DATA and GENERAL AUTHENTICATE). The name of the idle
+-- application is this project's own.
+use Rattle.std.specs.Prelude.{ℕ, Bool, not, ◌&&◌, ◌||◌, ◌==◌, nat_le, List, [], ◌∷◌, length, count_by, find, Option, Some, None, if◌then◌else◌}
 use Rattle.std.specs.List.{list_all}
 use Rattle.std.specs.Str.{bytes_eq}
 use Rattle.ber_tlv.specs.Elements.{Element, elements_of}
 use Rattle.piv_model.specs.Base.{Profile}
+use Rattle.piv_model.specs.Forms.{is_discovery}
 
--- the full and the truncated name of the PIV application, and the name of the idle one
-abbrev pub full_aid : List ℕ
-full_aid = 0xA0 ∷ 0x00 ∷ 0x00 ∷ 0x03 ∷ 0x08 ∷ 0x00 ∷ 0x00 ∷ 0x10 ∷ 0x00 ∷ 0x01 ∷ 0x00 ∷ []
-
+-- the truncated name of the PIV application, and the name of the idle one
 abbrev pub short_aid : List ℕ
 short_aid = 0xA0 ∷ 0x00 ∷ 0x00 ∷ 0x03 ∷ 0x08 ∷ 0x00 ∷ 0x00 ∷ 0x10 ∷ 0x00 ∷ []
 
 abbrev pub idle_aid : List ℕ
 idle_aid = 0xF0 ∷ 0x49 ∷ 0x44 ∷ 0x4C ∷ 0x45 ∷ []
-
--- a PIN: 6 to 8 digits, filled up to 8 bytes with FF
-abbrev pub is_digit : ℕ → Bool
-is_digit b = nat_le 0x30 b && nat_le b 0x39
-
-abbrev pub is_digit_or_fill : ℕ → Bool
-is_digit_or_fill b = is_digit b || (b == 0xFF)
-
-unfoldable pub is_pin : List ℕ → Bool
-is_pin p =
-    (length p == 8) && list_all is_digit (take 6 p) && list_all is_digit_or_fill (drop 6 p)
-    && (is_digit (slice_index p 6) || (slice_index p 7 == 0xFF))
-
--- the Discovery Object: the name of the application and a PIN usage policy, which is 40 00, or, on a card with a
--- Global PIN, 60 10 or 60 20
-abbrev pub discovery_head : List ℕ
-discovery_head = 0x4F ∷ 0x0B ∷ full_aid ++ 0x5F ∷ 0x2F ∷ 0x02 ∷ []
-
-abbrev pub is_policy : Bool → List ℕ → Bool
-is_policy has_global p =
-    bytes_eq p (0x40 ∷ 0x00 ∷ [])
-    || (has_global && (bytes_eq p (0x60 ∷ 0x10 ∷ []) || bytes_eq p (0x60 ∷ 0x20 ∷ [])))
-
-unfoldable pub is_discovery : Profile → List ℕ → Bool
-is_discovery m v = bytes_eq (take 16 v) discovery_head && is_policy m.has_global (drop 16 v)
 
 -- a tag list: the element 5C with a value of 1 to 3 bytes
 abbrev pub is_tag_list : Element → Bool
@@ -57,7 +30,7 @@ pub data PutForm : Type 0 where
   ObjectForm : List ℕ → List ℕ → PutForm
 
 abbrev pub put_named : Profile → List Element → Option PutForm
-put_named m (v ∷ []) = if (v.tag == 0x7E) && is_discovery m v.value then Some (DiscoveryForm v.value) else None
+put_named m (v ∷ []) = if (v.tag == 0x7E) && is_discovery m.has_global v.value then Some (DiscoveryForm v.value) else None
 put_named m (t ∷ v ∷ []) =
     if is_tag_list t && (v.tag == 0x53) && not (bytes_eq t.value (0x7E ∷ []))
     then Some (ObjectForm t.value v.value) else None

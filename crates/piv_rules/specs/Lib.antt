@@ -1,6 +1,5 @@
 pub mod StatusWords
 pub mod Lookback
-pub mod PlainCard
 pub mod Forms
 pub mod Asks
 pub mod Connections

@@ -18,7 +18,7 @@ ghost use Rattle.std.specs.List.{list_all};
 ghost use Rattle.piv_model.specs.Commands.{command_of};
 ghost use Rattle.piv_rules.specs.Asks.{select_ask, verify_ask};
 ghost use Rattle.piv_rules.specs.Lent.{AreFew};
-ghost use Rattle.piv_rules.specs.Forms.{is_digit, is_digit_or_fill, is_pin};
+ghost use Rattle.piv_model.specs.Forms.{is_digit, is_digit_or_fill, is_pin};
 ghost use Rattle.piv_rules.specs.Lent.{ask_of};
 
 fn select_asked(command: Command<'_>) -> Asked<'_>
@@ -59,7 +59,7 @@ fn are_digits_or_fill(bytes: &[u8]) -> bool
     bytes.iter().all(|b| is_digit_or_fill(*b))
 }
 
-#[tactic(auto, unfolding(crate::specs::Forms::is_pin))]
+#[tactic(auto, unfolding(piv_model::specs::Forms::is_pin))]
 fn has_pin_form(p: &[u8]) -> bool
     ensures { result ≡ is_pin p.now }
 {

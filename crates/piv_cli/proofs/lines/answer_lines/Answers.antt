@@ -8,9 +8,9 @@ lines-init g c =
     let granted : c.attach.result ≡ true = c.attach.ensures.free c.in-Ok.ensures.free in
     record {
       ready = c.attach.ensures.ready granted c.in-Ok.ensures.on;
-      so_far = λ B serves places memory. (
+      so_far = λ B serves memory. (
         opened_first,
-        record { stands = c.attach.ensures.stands granted B [] true (c.in-Ok.ensures.stands B serves places memory) refl; fresh = omega arith },
+        record { stands = c.attach.ensures.stands granted B [] true (c.in-Ok.ensures.stands B serves memory) refl; fresh = omega arith },
         λ more end writes. rw c.new-out.ensures.items writes,
       );
     }
@@ -18,8 +18,8 @@ lines-init g c =
 pub lines-preserved : goal.lines-preserved
 lines-preserved g c = record {
   ready = c.in_ok-answer_line-in-Some.ensures.ready;
-  so_far = λ B serves places memory.
-      let before = c.lines.invariant.so_far B serves places memory in
+  so_far = λ B serves memory.
+      let before = c.lines.invariant.so_far B serves memory in
       let answers = c.in_ok-answer_line-in-Some.ensures.answered B before.0 before.1 in (
         answers.after,
         answers.stands,
@@ -29,7 +29,7 @@ lines-preserved g c = record {
 
 pub returns-in-None : goal.returns-in-None
 unfolding AreLines
-returns-in-None g c B serves places memory =
-    let before = c.lines.invariant.so_far B serves places memory in
+returns-in-None g c B serves memory =
+    let before = c.lines.invariant.so_far B serves memory in
     let answers = c.in_ok-answer_line-in-None.ensures.answered B before.0 before.1 in
     (answers.after, lines-last g.S.Store.state B before.0 opened_first _ _ _ _ _ _ c.in-None.ensures.one answers before.2)

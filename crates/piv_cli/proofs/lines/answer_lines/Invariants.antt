@@ -11,7 +11,7 @@ use Rattle.piv_cli.proofs.lines.answer_lines.Given as goal
 abbrev pub invariant-lines : goal.invariant-lines
 invariant-lines g l = record {
   ready : CanExchange g.S.Store.state l.card 1;
-  so_far : (B : Base) → B.serves ≡ served → length B.memory.objects ≡ 33 → (g.S.Store.state l.fn.store).mem ≡ Some B.memory
+  so_far : (B : Base) → B.serves ≡ served → (g.S.Store.state l.fn.store).mem ≡ Some B.memory
       → (R : Records) × IsAfter g.S.Store.state l.card B R
       × ((more : List ℕ) (end : Records) → LinesWrite B R (slice_split is_newline l.rest) more end
       → LinesWrite B opened_first (slice_split is_newline l.input) (l.out.items ++ more) end);

@@ -3,7 +3,7 @@
 use Rattle.std.specs.Prelude.{ℕ, List, [], ◌∷◌, ◌++◌, replicate, None}
 use Rattle.piv_model.specs.Memory.{Memory}
 use Rattle.piv_model.specs.Base.{Base}
-use Rattle.piv_rules.specs.Forms.{discovery_head}
+use Rattle.piv_model.specs.Forms.{discovery_head}
 
 abbrev pub plain_pin : List ℕ
 plain_pin = 0x31 ∷ 0x32 ∷ 0x33 ∷ 0x34 ∷ 0x35 ∷ 0x36 ∷ 0xFF ∷ 0xFF ∷ []

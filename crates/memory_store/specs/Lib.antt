@@ -1,0 +1,6 @@
+pub mod Losses
+pub mod Plans
+pub mod References
+pub mod Changes
+pub mod Told
+pub mod Laws

@@ -1,0 +1,15 @@
+//! A store of a card's memory in memory, which loses power where a list says so.
+#![tactic(auto)]
+
+mod keys;
+mod loss;
+mod memory;
+mod plan;
+mod reference;
+mod store;
+#[cfg(test)]
+mod tests;
+mod value;
+
+pub use loss::{Leaves, Loss};
+pub use store::{MemoryStore, Ticket};
