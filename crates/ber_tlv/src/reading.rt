@@ -11,10 +11,10 @@ ghost use Rattle.ber_tlv.specs.Gives.{Gives, GivesParts};
 use crate::cursor::Tlv;
 use crate::fault::TlvKind;
 
-/// The largest length that is read.
+// The largest length that is read.
 const MOST: u32 = 65_535;
 
-/// A tag, its bytes as one number, and what follows it.
+// A tag, its bytes as one number, and what follows it.
 #[tactic(auto, unfolding(crate::specs::Reading::tag_at))]
 fn read_tag(bytes: &[u8]) -> Result<(u32, &[u8]), TlvKind>
     ensures { Gives result (tag_at bytes.now) }
@@ -33,7 +33,7 @@ fn read_tag(bytes: &[u8]) -> Result<(u32, &[u8]), TlvKind>
     }
 }
 
-/// A length of any form, also one that is too long.
+// A length of any form, also one that is too long.
 fn read_any_length(bytes: &[u8]) -> Result<(u32, &[u8]), TlvKind>
     ensures { Gives result (any_length_at bytes.now) }
 {
@@ -62,7 +62,7 @@ fn read_length(bytes: &[u8]) -> Result<(u32, &[u8]), TlvKind>
     Ok((n, rest))
 }
 
-/// The tag and the value of the element that the bytes begin with, and what follows it.
+// The tag and the value of the element that the bytes begin with, and what follows it.
 #[tactic(auto, unfolding(crate::specs::Reading::parts_at, crate::specs::Reading::value_at))]
 fn read_parts(bytes: &[u8]) -> Result<(u32, &[u8], &[u8]), TlvKind>
     ensures { GivesParts result (parts_at bytes.now) }

@@ -1,7 +1,7 @@
 use super::*;
 use std::process::Abort;
 
-/// How many elements come before the end or the fault, and the fault.
+// How many elements come before the end or the fault, and the fault.
 fn counted(bytes: &[u8]) -> (usize, Option<TlvFault>) {
     let mut cursor = Cursor::new(bytes);
     for count in 0..bytes.len() {

@@ -57,7 +57,7 @@ IsNoneDue n told = IfSome told (λ due. (false ≡ true) ↔ (is_due n due ≡ t
 abbrev pub IsOneDue : ℕ → Option (List ℕ) → Type 0
 IsOneDue n told = IfSome told (λ due. (true ≡ true) ↔ (is_due n due ≡ true))
 
-not_due : (n : ℕ) (told : Option (List ℕ)) → IsNoneDue n told → IfSome told (λ due. is_due n due ≡ false)
+pub not_due : (n : ℕ) (told : Option (List ℕ)) → IsNoneDue n told → IfSome told (λ due. is_due n due ≡ false)
 not_due n None h = tt
 not_due n (Some due) h = go (is_due n due) h.1
   where

@@ -1,4 +1,4 @@
--- What a comparison is for, as the code names it.
+-- What a comparison is for, VERIFY, CHANGE REFERENCE DATA or RESET RETRY COUNTER, as the code names it.
 use Rattle.std.specs.Prelude.{◌≡◌, IsTrue}
 use Rattle.piv_model.specs.declared.kinds.RefId.{RefId}
 use Rattle.piv_model.specs.declared.kinds.RefId.TheVariants.{Puk}

@@ -1,5 +1,5 @@
 // Comparisons with a reference: a try is spent first, and a match fills the counter.
-ghost use Rattle.std.specs.Prelude.{◌≡◌, IsTrue, IfOk, IfErr, IfSome, OnOk, OnErr};
+ghost use Rattle.std.specs.Prelude.{◌≡◌, IsTrue, IfSome, OnOk, OnErr};
 ghost use Rattle.loss_words.specs.Told.{LostWhereDue};
 ghost use Rattle.piv_model.specs.declared.kinds.RefId.TheVariants.{Puk};
 ghost use Rattle.piv_model.specs.Forms.{is_pin, is_secret};
@@ -7,8 +7,7 @@ ghost use Rattle.piv_model.specs.Memory.{has};
 ghost use Rattle.piv_model.specs.Stores.{changed, CutShort};
 ghost use Rattle.piv_rules.specs.Asks.{Compare, Verify, Change, Unblock};
 ghost use Rattle.piv_rules.specs.Effects.{after_match};
-ghost use Rattle.piv_rules.specs.Plans.{cost_of};
-ghost use Rattle.card_commands.specs.Carried.{word_of, Carried, Breaks};
+ghost use Rattle.card_commands.specs.Carried.{Carries};
 ghost use Rattle.card_commands.specs.Purposes.{purpose_of, Suits};
 
 use crate::broken::Broken;
@@ -51,15 +50,8 @@ fn compare<S: Store>(
     requires on { IsTrue (S.state store.old).on }
     requires has { IfSome (S.state store.old).mem (λ m. IsTrue (has m r)) }
     requires form { Suits r (purpose_of purpose) }
-    ensures word { let asked = Compare r candidate.now (purpose_of purpose) in
-        IfOk result (λ sw. IfSome (S.state store.old).mem (λ m. sw ≡ word_of m asked)) }
-    ensures carried { let asked = Compare r candidate.now (purpose_of purpose) in
-        IfOk result (λ sw. Carried S.put_cost asked sw (S.state store.old) (S.state store.new)) }
-    ensures broken { let asked = Compare r candidate.now (purpose_of purpose) in
-        IfErr result (λ broken. Breaks asked broken (S.state store.old) (S.state store.new)) }
-    ensures due { let asked = Compare r candidate.now (purpose_of purpose) in
-        IfSome (S.state store.old).mem (λ m.
-        LostWhereDue (cost_of S.put_cost asked (word_of m asked)) (S.state store.old).due result) }
+    ensures { let asked = Compare r candidate.now (purpose_of purpose) in
+        Carries S.put_cost asked result (S.state store.old) (S.state store.new) }
 {
     let tries = store.tries(r);
     if tries == 0 {
@@ -78,20 +70,13 @@ fn compare<S: Store>(
     }
 }
 
-/// VERIFY with a PIN, from the retry counter on: 69 83 where no try is left, 63 CX for another value,
+/// VERIFY of a reference, from the retry counter on: 69 83 where no try is left, 63 CX for another value,
 /// 90 00 for the secret, whose counter is then full.
 pub fn verify<S: Store>(store: &mut S, r: RefId, candidate: &[u8; 8]) -> Result<u16, Broken>
     requires on { IsTrue (S.state store.old).on }
     requires has { IfSome (S.state store.old).mem (λ m. IsTrue (has m r)) }
-    ensures word { let asked = Compare r candidate.now Verify in
-        IfOk result (λ sw. IfSome (S.state store.old).mem (λ m. sw ≡ word_of m asked)) }
-    ensures carried { let asked = Compare r candidate.now Verify in
-        IfOk result (λ sw. Carried S.put_cost asked sw (S.state store.old) (S.state store.new)) }
-    ensures broken { let asked = Compare r candidate.now Verify in
-        IfErr result (λ broken. Breaks asked broken (S.state store.old) (S.state store.new)) }
-    ensures due { let asked = Compare r candidate.now Verify in
-        IfSome (S.state store.old).mem (λ m.
-        LostWhereDue (cost_of S.put_cost asked (word_of m asked)) (S.state store.old).due result) }
+    ensures { let asked = Compare r candidate.now Verify in
+        Carries S.put_cost asked result (S.state store.old) (S.state store.new) }
 {
     compare(store, r, candidate, Purpose::Verify)
 }
@@ -106,15 +91,8 @@ pub fn change<S: Store>(
     requires on { IsTrue (S.state store.old).on }
     requires has { IfSome (S.state store.old).mem (λ m. IsTrue (has m r)) }
     requires form { IsTrue (is_secret r new.now) }
-    ensures word { let asked = Compare r candidate.now (Change new.now) in
-        IfOk result (λ sw. IfSome (S.state store.old).mem (λ m. sw ≡ word_of m asked)) }
-    ensures carried { let asked = Compare r candidate.now (Change new.now) in
-        IfOk result (λ sw. Carried S.put_cost asked sw (S.state store.old) (S.state store.new)) }
-    ensures broken { let asked = Compare r candidate.now (Change new.now) in
-        IfErr result (λ broken. Breaks asked broken (S.state store.old) (S.state store.new)) }
-    ensures due { let asked = Compare r candidate.now (Change new.now) in
-        IfSome (S.state store.old).mem (λ m.
-        LostWhereDue (cost_of S.put_cost asked (word_of m asked)) (S.state store.old).due result) }
+    ensures { let asked = Compare r candidate.now (Change new.now) in
+        Carries S.put_cost asked result (S.state store.old) (S.state store.new) }
 {
     compare(store, r, candidate, Purpose::Change(*new))
 }
@@ -124,15 +102,8 @@ pub fn change<S: Store>(
 pub fn unblock<S: Store>(store: &mut S, puk: &[u8; 8], new: &[u8; 8]) -> Result<u16, Broken>
     requires on { IsTrue (S.state store.old).on }
     requires form { IsTrue (is_pin new.now) }
-    ensures word { let asked = Compare Puk puk.now (Unblock new.now) in
-        IfOk result (λ sw. IfSome (S.state store.old).mem (λ m. sw ≡ word_of m asked)) }
-    ensures carried { let asked = Compare Puk puk.now (Unblock new.now) in
-        IfOk result (λ sw. Carried S.put_cost asked sw (S.state store.old) (S.state store.new)) }
-    ensures broken { let asked = Compare Puk puk.now (Unblock new.now) in
-        IfErr result (λ broken. Breaks asked broken (S.state store.old) (S.state store.new)) }
-    ensures due { let asked = Compare Puk puk.now (Unblock new.now) in
-        IfSome (S.state store.old).mem (λ m.
-        LostWhereDue (cost_of S.put_cost asked (word_of m asked)) (S.state store.old).due result) }
+    ensures { let asked = Compare Puk puk.now (Unblock new.now) in
+        Carries S.put_cost asked result (S.state store.old) (S.state store.new) }
 {
     compare(store, RefId::Puk, puk, Purpose::Unblock(*new))
 }

@@ -1,10 +1,8 @@
 // PUT DATA.
-ghost use Rattle.std.specs.Prelude.{◌≡◌, IsTrue, IfOk, IfErr, IfSome, is_some};
-ghost use Rattle.loss_words.specs.Told.{LostWhereDue};
+ghost use Rattle.std.specs.Prelude.{IsTrue, IfSome, is_some};
 ghost use Rattle.piv_model.specs.Sound.{may_stand};
 ghost use Rattle.piv_rules.specs.Asks.{Put};
-ghost use Rattle.piv_rules.specs.Plans.{cost_of};
-ghost use Rattle.card_commands.specs.Carried.{word_of, Carried, Breaks};
+ghost use Rattle.card_commands.specs.Carried.{Carries};
 
 use crate::broken::Broken;
 use crate::words::{NOT_ENOUGH_MEMORY, SUCCESS};
@@ -14,15 +12,8 @@ use piv_model::{ObjectId, PutFault, Store};
 pub fn put<S: Store>(store: &mut S, id: ObjectId, value: &[u8]) -> Result<u16, Broken>
     requires on { IsTrue (S.state store.old).on }
     requires form { IfSome (S.state store.old).mem (λ m. IsTrue (may_stand (is_some m.global) id value.now)) }
-    ensures word { let asked = Put id value.now in
-        IfOk result (λ sw. IfSome (S.state store.old).mem (λ m. sw ≡ word_of m asked)) }
-    ensures carried { let asked = Put id value.now in
-        IfOk result (λ sw. Carried S.put_cost asked sw (S.state store.old) (S.state store.new)) }
-    ensures broken { let asked = Put id value.now in
-        IfErr result (λ broken. Breaks asked broken (S.state store.old) (S.state store.new)) }
-    ensures due { let asked = Put id value.now in
-        IfSome (S.state store.old).mem (λ m.
-        LostWhereDue (cost_of S.put_cost asked (word_of m asked)) (S.state store.old).due result) }
+    ensures { let asked = Put id value.now in
+        Carries S.put_cost asked result (S.state store.old) (S.state store.new) }
 {
     let same = store.same(id, value);
     match store.put(id, value) {

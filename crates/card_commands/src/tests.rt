@@ -1,14 +1,16 @@
-ghost use Rattle.std.specs.Prelude.{◌≡◌, ◌<◌, Some, None, IsTrue, IfOk};
+ghost use Rattle.std.specs.Prelude.{◌≡◌, Some, None, IsTrue, IfOk, is_ok};
 ghost use Rattle.loss_words.specs.Due.{RisesFrom};
 ghost use Rattle.piv_model.specs.Starts.{SpellsMemory};
 ghost use Rattle.piv_model.specs.PlainCard.{plain_memory};
 ghost use Rattle.memory_store.specs.Losses.{write_numbers};
 
 use crate::Broken::{Filling, Putting, Spending};
+use crate::tests::Command::{ChangePin, ChangePuk, Unblock, Verify};
 use crate::{Broken, change, put, unblock, verify};
 use memory_store::{Leaves, Loss, MemoryStore};
 use piv_model::{NoMemory, ObjectId, RefId, Start, Store, object_by_tag, plain_start};
-use std::alloc::{AllocError, Global};
+use std::alloc::Global;
+use std::process::Abort;
 use std::test::Fail;
 
 // The PIN and the PUK of the plain card.
@@ -27,10 +29,13 @@ const CHUID: [u8; 4] = [0x3E, 0x00, 0xFE, 0x00];
 
 #[derive(Clone, Copy, Debug)]
 enum Command {
-    VerifyWrong,
-    Verify,
-    Change,
-    Unblock,
+    Verify([u8; 8]),
+    // Gives the new PIN.
+    ChangePin([u8; 8]),
+    // Gives the new PUK.
+    ChangePuk([u8; 8]),
+    // Gives the new PIN.
+    Unblock([u8; 8]),
 }
 
 // A store that tells nothing of itself, so that a test has to know nothing of its memory. After a command that
@@ -42,59 +47,32 @@ struct Untold<S: Store> {
     ghost untold: { (S.state store).mem ≡ None },
 }
 
+fn on_again<S: Store>(store: &mut S, ended: Result<u16, Broken>) -> Result<u16, Broken>
+    requires on { (S.state store.old).on ≡ is_ok ended }
+    ensures on { IsTrue (S.state store.new).on }
+    ensures memory { (S.state store.new).mem ≡ (S.state store.old).mem }
+{
+    if ended.is_err() {
+        store.power_up();
+    }
+    ended
+}
+
 impl<S: Store> Untold<S> {
-    fn verify(&mut self, pin: &[u8; 8]) -> Result<u16, Broken> {
-        let ended = verify(&mut self.store, RefId::Pin, pin);
-        if ended.is_err() {
-            self.store.power_up();
-        }
-        ended
-    }
-
-    // Changes the PIN to the new one.
     #[tactic(auto, unfolding(piv_model::specs::Forms::is_pin))]
-    fn change_pin(&mut self, old: &[u8; 8]) -> Result<u16, Broken> {
-        let ended = change(&mut self.store, RefId::Pin, old, &NEW_PIN);
-        if ended.is_err() {
-            self.store.power_up();
-        }
-        ended
-    }
-
-    // Changes the PUK to the new one.
-    fn change_puk(&mut self, old: &[u8; 8]) -> Result<u16, Broken> {
-        let ended = change(&mut self.store, RefId::Puk, old, &NEW_PUK);
-        if ended.is_err() {
-            self.store.power_up();
-        }
-        ended
-    }
-
-    // Gives the new PIN.
-    #[tactic(auto, unfolding(piv_model::specs::Forms::is_pin))]
-    fn unblock(&mut self, puk: &[u8; 8]) -> Result<u16, Broken> {
-        let ended = unblock(&mut self.store, puk, &NEW_PIN);
-        if ended.is_err() {
-            self.store.power_up();
-        }
-        ended
-    }
-
     fn run(&mut self, command: Command) -> Result<u16, Broken> {
-        match command {
-            Command::VerifyWrong => self.verify(&WRONG),
-            Command::Verify => self.verify(&PIN),
-            Command::Change => self.change_pin(&PIN),
-            Command::Unblock => self.unblock(&PUK),
-        }
+        let ended = match command {
+            Verify(pin) => verify(&mut self.store, RefId::Pin, &pin),
+            ChangePin(pin) => change(&mut self.store, RefId::Pin, &pin, &NEW_PIN),
+            ChangePuk(puk) => change(&mut self.store, RefId::Puk, &puk, &NEW_PUK),
+            Unblock(puk) => unblock(&mut self.store, &puk, &NEW_PIN),
+        };
+        on_again(&mut self.store, ended)
     }
 
     fn put(&mut self, id: ObjectId, value: &[u8]) -> Result<u16, Broken> {
         let ended = put(&mut self.store, id, value);
-        if ended.is_err() {
-            self.store.power_up();
-        }
-        ended
+        on_again(&mut self.store, ended)
     }
 
     fn tries(&self) -> (u8, u8) {
@@ -106,74 +84,74 @@ impl<S: Store> Untold<S> {
     }
 }
 
-fn card_of(alloc: Global, start: &Start, losses: Vec<Loss>) -> Result<Untold<MemoryStore>, Fail>
+fn card_of(alloc: Global, start: &Start, losses: &[Loss]) -> Result<Untold<MemoryStore>, Fail>
     requires spells { SpellsMemory start.now }
-    requires rises { RisesFrom 0 (write_numbers losses.items) }
+    requires rises { RisesFrom 0 (write_numbers losses.now) }
 {
-    let store = MemoryStore::new(alloc, start, losses)?.untold();
+    let store = MemoryStore::new(alloc, start, losses.to_vec(alloc)?)?.untold();
     Ok(Untold { store })
 }
 
-fn plain_card(alloc: Global, losses: Vec<Loss>) -> Result<Untold<MemoryStore>, Fail>
-    requires { RisesFrom 0 (write_numbers losses.items) }
+fn plain_card(alloc: Global, losses: &[Loss]) -> Result<Untold<MemoryStore>, Fail>
+    requires { RisesFrom 0 (write_numbers losses.now) }
 {
     card_of(alloc, &plain_start(alloc)?, losses)
-}
-
-fn one_loss(alloc: Global, write: u64, leaves: Leaves) -> Result<Vec<Loss>, AllocError>
-    requires { 0 < write }
-    ensures { IfOk result (λ losses. RisesFrom 0 (write_numbers losses.items)) }
-{
-    let mut losses = Vec::new(alloc);
-    losses.push(Loss { write, leaves })?;
-    Ok(losses)
 }
 
 #[tactic(auto, unfolding(piv_model::specs::Objects::place_of, piv_model::specs::Objects::object_table))]
 fn chuid() -> Result<ObjectId, Fail>
     ensures { IfOk result (λ id. id ≡ 1) }
 {
-    match object_by_tag(&[0x5F, 0xC1, 0x02]) {
-        Some(id) => Ok(id),
-        None => Err(Fail::from("no CHUID")),
+    Ok(object_by_tag(&[0x5F, 0xC1, 0x02]).ok_or("no CHUID")?)
+}
+
+// Each command is answered so, and then so many tries of the PIN and of the PUK are left.
+fn expect_answers<S: Store>(
+    rt: &impl Abort,
+    card: &mut Untold<S>,
+    rows: &[(Command, Result<u16, Broken>, (u8, u8))],
+) {
+    for (command, ended, tries) in rows {
+        assert_eq!(rt; card.run(*command), *ended, "{command:?}");
+        assert_eq!(rt; card.tries(), *tries, "{command:?}");
     }
 }
 
 #[test]
 fn three_wrong_pins_block_the_pin_and_the_puk_unblocks_it(rt: HostRuntime) -> Result<(), Fail> {
     let alloc = rt.alloc();
-    let mut card = plain_card(alloc, Vec::new(alloc))?;
-    for word in [0x63C2, 0x63C1, 0x63C0] {
-        assert_eq!(rt; card.verify(&WRONG), Ok(word));
-    }
-    assert_eq!(rt; card.verify(&PIN), Ok(0x6983));
-    assert_eq!(rt; card.unblock(&WRONG), Ok(0x63C2));
-    assert_eq!(rt; card.tries(), (0, 2));
-    assert_eq!(rt; card.unblock(&PUK), Ok(0x9000));
-    assert_eq!(rt; card.tries(), (3, 3));
-    assert_eq!(rt; card.verify(&PIN), Ok(0x63C2));
-    assert_eq!(rt; card.verify(&NEW_PIN), Ok(0x9000));
-    assert_eq!(rt; card.tries(), (3, 3));
+    let mut card = plain_card(alloc, &[])?;
+    let rows = [
+        (Verify(WRONG), Ok(0x63C2), (2, 3)),
+        (Verify(WRONG), Ok(0x63C1), (1, 3)),
+        (Verify(WRONG), Ok(0x63C0), (0, 3)),
+        (Verify(PIN), Ok(0x6983), (0, 3)),
+        (ChangePin(PIN), Ok(0x6983), (0, 3)),
+        (Unblock(WRONG), Ok(0x63C2), (0, 2)),
+        (Unblock(PUK), Ok(0x9000), (3, 3)),
+        (Verify(PIN), Ok(0x63C2), (2, 3)),
+        (Verify(NEW_PIN), Ok(0x9000), (3, 3)),
+    ];
+    expect_answers(&rt, &mut card, &rows);
     Ok(())
 }
 
 #[test]
 fn a_change_asks_the_old_value_and_fills_the_counter(rt: HostRuntime) -> Result<(), Fail> {
     let alloc = rt.alloc();
-    let mut card = plain_card(alloc, Vec::new(alloc))?;
-    assert_eq!(rt; card.change_pin(&WRONG), Ok(0x63C2));
-    assert_eq!(rt; card.verify(&NEW_PIN), Ok(0x63C1));
-    assert_eq!(rt; card.change_pin(&PIN), Ok(0x9000));
-    assert_eq!(rt; card.tries(), (3, 3));
-    assert_eq!(rt; card.verify(&PIN), Ok(0x63C2));
-    assert_eq!(rt; card.verify(&NEW_PIN), Ok(0x9000));
-    assert_eq!(rt; card.change_puk(&NEW_PUK), Ok(0x63C2));
-    assert_eq!(rt; card.tries(), (3, 2));
-    assert_eq!(rt; card.change_puk(&PUK), Ok(0x9000));
-    assert_eq!(rt; card.tries(), (3, 3));
-    assert_eq!(rt; card.unblock(&PUK), Ok(0x63C2));
-    assert_eq!(rt; card.unblock(&NEW_PUK), Ok(0x9000));
-    assert_eq!(rt; card.tries(), (3, 3));
+    let mut card = plain_card(alloc, &[])?;
+    let rows = [
+        (ChangePin(WRONG), Ok(0x63C2), (2, 3)),
+        (Verify(NEW_PIN), Ok(0x63C1), (1, 3)),
+        (ChangePin(PIN), Ok(0x9000), (3, 3)),
+        (Verify(PIN), Ok(0x63C2), (2, 3)),
+        (Verify(NEW_PIN), Ok(0x9000), (3, 3)),
+        (ChangePuk(NEW_PUK), Ok(0x63C2), (3, 2)),
+        (ChangePuk(PUK), Ok(0x9000), (3, 3)),
+        (Unblock(PUK), Ok(0x63C2), (3, 2)),
+        (Unblock(NEW_PUK), Ok(0x9000), (3, 3)),
+    ];
+    expect_answers(&rt, &mut card, &rows);
     Ok(())
 }
 
@@ -181,17 +159,19 @@ fn a_change_asks_the_old_value_and_fills_the_counter(rt: HostRuntime) -> Result<
 fn a_put_keeps_the_value_where_it_has_room(rt: HostRuntime) -> Result<(), Fail> {
     let alloc = rt.alloc();
     let id = chuid()?;
-    let mut card = plain_card(alloc, Vec::new(alloc))?;
-    let mut long = Vec::new(alloc);
-    long.resize(16_385, 0xC3)?;
-    assert!(rt; card.holds(id, &CHUID));
-    assert_eq!(rt; card.put(id, long.as_slice()), Ok(0x6A84));
-    assert!(rt; card.holds(id, &CHUID));
-    let _last = long.pop();
-    assert_eq!(rt; card.put(id, long.as_slice()), Ok(0x9000));
-    assert!(rt; card.holds(id, long.as_slice()));
-    assert_eq!(rt; card.put(id, &[]), Ok(0x9000));
-    assert!(rt; card.holds(id, &[]));
+    let mut card = plain_card(alloc, &[])?;
+    let mut longest = Vec::new(alloc);
+    longest.resize(16_384, 0xC3)?;
+    let mut longer = Vec::new(alloc);
+    longer.resize(16_385, 0xC3)?;
+    for (value, word, kept) in [
+        (longer.as_slice(), 0x6A84, CHUID.as_slice()),
+        (longest.as_slice(), 0x9000, longest.as_slice()),
+        (&[], 0x9000, &[]),
+    ] {
+        assert_eq!(rt; card.put(id, value), Ok(word));
+        assert!(rt; card.holds(id, kept));
+    }
     Ok(())
 }
 
@@ -209,13 +189,16 @@ fn small_start(alloc: Global) -> Result<Start, NoMemory>
 fn a_put_needs_room_beside_all_objects(rt: HostRuntime) -> Result<(), Fail> {
     let alloc = rt.alloc();
     let id = chuid()?;
-    let mut card = card_of(alloc, &small_start(alloc)?, Vec::new(alloc))?;
-    assert_eq!(rt; card.put(id, &[0xC3; 129]), Ok(0x6A84));
-    assert_eq!(rt; card.put(id, &[0xC3; 128]), Ok(0x9000));
-    assert_eq!(rt; card.put(id, &[0xC4; 128]), Ok(0x6A84));
-    assert!(rt; card.holds(id, &[0xC3; 128]));
-    assert_eq!(rt; card.put(id, &[]), Ok(0x9000));
-    assert!(rt; card.holds(id, &[]));
+    let mut card = card_of(alloc, &small_start(alloc)?, &[])?;
+    for (value, word, kept) in [
+        ([0xC3; 129].as_slice(), 0x6A84, CHUID.as_slice()),
+        ([0xC3; 128].as_slice(), 0x9000, [0xC3; 128].as_slice()),
+        ([0xC4; 128].as_slice(), 0x6A84, [0xC3; 128].as_slice()),
+        (&[], 0x9000, &[]),
+    ] {
+        assert_eq!(rt; card.put(id, value), Ok(word));
+        assert!(rt; card.holds(id, kept));
+    }
     Ok(())
 }
 
@@ -229,41 +212,37 @@ fn a_lost_comparison_tells_its_call_and_leaves_no_other_memory(
     let spending = Spending { tries: 2 };
     let filling = Filling { tries: 2 };
     for (command, broken, leaves, tries, pin) in [
-        (Command::VerifyWrong, spending, Leaves::Old, (2, 2), PIN),
-        (Command::VerifyWrong, spending, Leaves::New, (1, 2), PIN),
-        (Command::Verify, spending, Leaves::Old, (2, 2), PIN),
-        (Command::Verify, spending, Leaves::New, (1, 2), PIN),
-        (Command::Verify, filling, Leaves::Old, (1, 2), PIN),
-        (Command::Verify, filling, Leaves::New, (3, 2), PIN),
-        (Command::Change, spending, Leaves::Old, (2, 2), PIN),
-        (Command::Change, spending, Leaves::New, (1, 2), PIN),
-        (Command::Change, filling, Leaves::Old, (1, 2), PIN),
-        (Command::Change, filling, Leaves::New, (3, 2), NEW_PIN),
-        (Command::Unblock, spending, Leaves::Old, (2, 2), PIN),
-        (Command::Unblock, spending, Leaves::New, (2, 1), PIN),
-        (Command::Unblock, filling, Leaves::Old, (2, 1), PIN),
-        (Command::Unblock, filling, Leaves::New, (3, 3), NEW_PIN),
+        (Verify(WRONG), spending, Leaves::Old, (2, 2), PIN),
+        (Verify(WRONG), spending, Leaves::New, (1, 2), PIN),
+        (Verify(PIN), spending, Leaves::Old, (2, 2), PIN),
+        (Verify(PIN), spending, Leaves::New, (1, 2), PIN),
+        (Verify(PIN), filling, Leaves::Old, (1, 2), PIN),
+        (Verify(PIN), filling, Leaves::New, (3, 2), PIN),
+        (ChangePin(PIN), spending, Leaves::Old, (2, 2), PIN),
+        (ChangePin(PIN), spending, Leaves::New, (1, 2), PIN),
+        (ChangePin(PIN), filling, Leaves::Old, (1, 2), PIN),
+        (ChangePin(PIN), filling, Leaves::New, (3, 2), NEW_PIN),
+        (Unblock(PUK), spending, Leaves::Old, (2, 2), PIN),
+        (Unblock(PUK), spending, Leaves::New, (2, 1), PIN),
+        (Unblock(PUK), filling, Leaves::Old, (2, 1), PIN),
+        (Unblock(PUK), filling, Leaves::New, (3, 3), NEW_PIN),
     ] {
         let writes = if broken == spending { [5, 6] } else { [7, 8] };
         for write in writes {
-            let mut card = plain_card(alloc, one_loss(alloc, write, leaves)?)?;
-            assert_eq!(rt; card.verify(&WRONG), Ok(0x63C2));
-            assert_eq!(rt; card.unblock(&WRONG), Ok(0x63C2));
+            let mut card = plain_card(alloc, &[Loss { write, leaves }])?;
+            assert_eq!(rt; card.run(Verify(WRONG)), Ok(0x63C2));
+            assert_eq!(rt; card.run(Unblock(WRONG)), Ok(0x63C2));
             assert_eq!(rt;
                 card.run(command),
                 Err(broken),
-                "{command:?}, write {write}"
+                "{command:?}, {write}, {leaves:?}"
             );
             assert_eq!(rt; card.store.lost(), 1);
+            assert_eq!(rt; card.tries(), tries, "{command:?}, {write}, {leaves:?}");
             assert_eq!(rt;
-                card.tries(),
-                tries,
-                "{command:?}, write {write}, {leaves:?}"
-            );
-            assert_eq!(rt;
-                card.verify(&pin),
+                card.run(Verify(pin)),
                 Ok(0x9000),
-                "{command:?}, write {write}, {leaves:?}"
+                "{command:?}, {write}, {leaves:?}"
             );
         }
     }
@@ -280,7 +259,7 @@ fn a_lost_put_tells_what_was_there_and_leaves_the_old_or_the_new_value(
     for (old, same) in [(0xC3, false), (0xC4, true)] {
         for write in 6..11 {
             for (leaves, new) in [(Leaves::Old, old), (Leaves::New, 0xC4)] {
-                let mut card = plain_card(alloc, one_loss(alloc, write, leaves)?)?;
+                let mut card = plain_card(alloc, &[Loss { write, leaves }])?;
                 assert_eq!(rt; card.put(id, &[old; 130]), Ok(0x9000));
                 assert_eq!(rt;
                     card.put(id, &[0xC4; 130]),
@@ -292,7 +271,8 @@ fn a_lost_put_tells_what_was_there_and_leaves_the_old_or_the_new_value(
                 assert_eq!(rt; card.put(id, &[]), Ok(0x9000));
             }
         }
-        let mut card = plain_card(alloc, one_loss(alloc, 11, Leaves::Old)?)?;
+        let leaves = Leaves::Old;
+        let mut card = plain_card(alloc, &[Loss { write: 11, leaves }])?;
         assert_eq!(rt; card.put(id, &[old; 130]), Ok(0x9000));
         assert_eq!(rt; card.put(id, &[0xC4; 130]), Ok(0x9000));
         assert_eq!(rt; card.put(id, &[]), Err(Putting { same: false }));
@@ -305,17 +285,19 @@ fn a_lost_put_tells_what_was_there_and_leaves_the_old_or_the_new_value(
 fn losses_give_no_further_try(rt: HostRuntime) -> Result<(), Fail> {
     let alloc = rt.alloc();
     let leaves = Leaves::New;
-    let mut losses = Vec::new(alloc);
-    losses.push(Loss { write: 2, leaves })?;
-    losses.push(Loss { write: 4, leaves })?;
-    losses.push(Loss { write: 6, leaves })?;
-    let mut card = plain_card(alloc, losses)?;
-    for tries in [3, 2, 1] {
-        assert_eq!(rt; card.verify(&WRONG), Err(Spending { tries }));
-    }
-    assert_eq!(rt; card.tries(), (0, 3));
-    assert_eq!(rt; card.verify(&WRONG), Ok(0x6983));
-    assert_eq!(rt; card.verify(&PIN), Ok(0x6983));
+    let losses = [
+        Loss { write: 2, leaves },
+        Loss { write: 4, leaves },
+        Loss { write: 6, leaves },
+    ];
+    let mut card = plain_card(alloc, &losses)?;
+    let rows = [
+        (Verify(WRONG), Err(Spending { tries: 3 }), (2, 3)),
+        (Verify(WRONG), Err(Spending { tries: 2 }), (1, 3)),
+        (Verify(WRONG), Err(Spending { tries: 1 }), (0, 3)),
+        (Verify(PIN), Ok(0x6983), (0, 3)),
+    ];
+    expect_answers(&rt, &mut card, &rows);
     assert_eq!(rt; card.store.lost(), 3);
     Ok(())
 }
@@ -328,19 +310,18 @@ fn told(alloc: Global) -> Result<MemoryStore, Fail>
     Ok(MemoryStore::new(alloc, &start, Vec::new(alloc))?)
 }
 
-// Over a store that tells its memory.
+// The conditions can be shown over a store that tells its memory.
 #[tactic(auto, unfolding(piv_model::specs::Forms::is_pin))]
 #[test]
 fn each_command_succeeds_where_its_conditions_are_shown(rt: HostRuntime) -> Result<(), Fail> {
     let alloc = rt.alloc();
     let id = chuid()?;
-    let mut store = told(alloc)?;
-    assert_eq!(rt; verify(&mut store, RefId::Pin, &PIN), Ok(0x9000));
-    let mut store = told(alloc)?;
-    assert_eq!(rt; change(&mut store, RefId::Pin, &PIN, &NEW_PIN), Ok(0x9000));
-    let mut store = told(alloc)?;
-    assert_eq!(rt; unblock(&mut store, &PUK, &NEW_PIN), Ok(0x9000));
-    let mut store = told(alloc)?;
-    assert_eq!(rt; put(&mut store, id, &[0xC3; 130]), Ok(0x9000));
+    assert_eq!(rt; verify(&mut told(alloc)?, RefId::Pin, &PIN), Ok(0x9000));
+    assert_eq!(rt;
+        change(&mut told(alloc)?, RefId::Pin, &PIN, &NEW_PIN),
+        Ok(0x9000)
+    );
+    assert_eq!(rt; unblock(&mut told(alloc)?, &PUK, &NEW_PIN), Ok(0x9000));
+    assert_eq!(rt; put(&mut told(alloc)?, id, &[0xC3; 130]), Ok(0x9000));
     Ok(())
 }

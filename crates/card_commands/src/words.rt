@@ -1,5 +1,5 @@
 // Status words, by their names in ISO/IEC 7816-4.
-ghost use Rattle.std.specs.Prelude.{◌≡◌, ◌≤◌};
+ghost use Rattle.std.specs.Prelude.{◌≡◌};
 ghost use Rattle.piv_rules.specs.StatusWords.{tries_word};
 
 pub const SUCCESS: u16 = 0x9000;

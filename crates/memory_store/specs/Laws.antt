@@ -1,4 +1,4 @@
--- What the store owes as a store.
+-- Later losses rise from now. The proof stands here, since code can cite only the specs of its own crate.
 use Rattle.std.specs.Prelude.{ℕ, ◌-◌, ◌≤◌, Bool, true, false, List, [], ◌∷◌, length, drop, IfSome}
 use Rattle.std.proofs.Common.{arith}
 use Rattle.std.proofs.lemmas.List.{length-drop}

@@ -3,4 +3,5 @@ pub mod Plans
 pub mod References
 pub mod Changes
 pub mod Told
+pub mod Kept
 pub mod Laws

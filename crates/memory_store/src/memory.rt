@@ -1,11 +1,11 @@
 // A card's memory.
-ghost use Rattle.std.specs.Prelude.{◌≡◌, ◌≤◌, length, true, false, IsTrue, IsSome, IfSome, IfNone, IfOk};
+ghost use Rattle.std.specs.Prelude.{◌≡◌, ◌≤◌, length, true, false, IsSome, IfSome, IfNone, IfOk};
 ghost use Rattle.piv_model.specs.declared.kinds.RefId.TheVariants.{GlobalPin};
 ghost use Rattle.piv_model.specs.Memory.{has, reference, key_at, stored, blocks as blocks_of, blocks_used, fits};
 ghost use Rattle.piv_model.specs.Changes.{change_reference, one_less, full, renewed, with_object};
 ghost use Rattle.piv_model.specs.Starts.{memory_of_start, SpellsMemory};
 ghost use Rattle.memory_store.specs.References.{reference_of};
-ghost use Rattle.memory_store.specs.Changes.{changed_by};
+ghost use Rattle.memory_store.specs.Changes.{changed_by, bytes_put};
 
 use crate::keys::StoredKey;
 use crate::reference::Reference;
@@ -18,13 +18,14 @@ const BLOCK: usize = 64;
 
 const PLACES: usize = 33;
 
-// How the references are to change.
+// How the memory is to change.
 #[derive(Clone, Copy)]
-pub(crate) enum Change {
+pub(crate) enum Change<'a> {
     Spend(RefId),
-    Fill(RefId),
-    Renew(RefId, [u8; 8]),
-    Unblock([u8; 8]),
+    Restore(RefId),
+    Renew(RefId, &'a [u8; 8]),
+    Unblock(&'a [u8; 8]),
+    Put(ObjectId, &'a [u8]),
 }
 
 #[derive(Drop)]
@@ -143,11 +144,11 @@ impl CardMemory {
         }
     }
 
-    fn fill_counter(&mut self, r: RefId)
+    fn restore(&mut self, r: RefId)
         ensures { self.new ≡ change_reference r full self.old }
     {
         if let Some(x) = self.reference(r) {
-            self.set_reference(r, x.filled());
+            self.set_reference(r, x.restored());
         }
     }
 
@@ -159,7 +160,7 @@ impl CardMemory {
         }
     }
 
-    pub(crate) fn put(&mut self, id: ObjectId, value: &[u8])
+    fn put(&mut self, id: ObjectId, value: &[u8])
         requires { length value.now ≤ 16384 }
         ensures { self.new ≡ with_object id value.now self.old }
     {
@@ -167,17 +168,19 @@ impl CardMemory {
         object.set(value);
     }
 
-    pub(crate) fn change(&mut self, change: Change)
-        ensures { self.new ≡ changed_by change self.old }
+    pub(crate) fn change(&mut self, change: &Change<'_>)
+        requires short { length (bytes_put change.now) ≤ 16384 }
+        ensures { self.new ≡ changed_by change.now self.old }
     {
-        match change {
+        match *change {
             Change::Spend(r) => self.spend(r),
-            Change::Fill(r) => self.fill_counter(r),
-            Change::Renew(r, secret) => self.renew(r, &secret),
+            Change::Restore(r) => self.restore(r),
+            Change::Renew(r, secret) => self.renew(r, secret),
             Change::Unblock(pin) => {
-                self.fill_counter(RefId::Puk);
-                self.renew(RefId::Pin, &pin);
+                self.restore(RefId::Puk);
+                self.renew(RefId::Pin, pin);
             }
+            Change::Put(id, value) => self.put(id, value),
         }
     }
 

@@ -37,7 +37,7 @@ impl Reference {
     }
 
     // A full counter.
-    pub(crate) fn filled(self) -> Reference
+    pub(crate) fn restored(self) -> Reference
         ensures { reference_of result ≡ full (reference_of self) }
     {
         Reference::new(self.limit, self.secret)

@@ -1,5 +1,5 @@
 // The store.
-ghost use Rattle.std.specs.Prelude.{◌≡◌, ◌≤◌, ◌+◌, length, true, false, Some, None, [], IsTrue, IfSome, IfOk, OnOk, OnErr};
+ghost use Rattle.std.specs.Prelude.{◌≡◌, ◌≤◌, ◌+◌, length, true, Some, None, IsTrue, IfSome, IfOk, OnOk, OnErr};
 ghost use Rattle.std.proofs.Props.{props};
 ghost use Rattle.loss_words.specs.Due.{RisesFrom};
 ghost use Rattle.loss_words.specs.Told.{LostWhereDue};
@@ -7,10 +7,10 @@ ghost use Rattle.piv_model.specs.Memory.{blocks as blocks_of};
 ghost use Rattle.piv_model.specs.Sound.{IsSound};
 ghost use Rattle.piv_model.specs.Stores.{changed, CutShort};
 ghost use Rattle.piv_model.specs.Starts.{memory_of_start, SpellsMemory};
-ghost use Rattle.memory_store.specs.Losses.{write_numbers};
-ghost use Rattle.memory_store.specs.Changes.{changed_by};
+ghost use Rattle.memory_store.specs.Losses.{write_numbers, leaves_in};
+ghost use Rattle.memory_store.specs.Changes.{changed_by, bytes_put, may_be_made};
 ghost use Rattle.memory_store.specs.Told.{told as told_if};
-ghost use Rattle.memory_store.specs.Plans.{all_losses, came_of, due_of};
+ghost use Rattle.memory_store.specs.Plans.{all_losses, came_of, to_come, due_of};
 
 use crate::loss::{Leaves, Loss};
 use crate::memory::{CardMemory, Change, blocks};
@@ -21,7 +21,11 @@ use std::alloc::Global;
 // The writes of a call on references.
 const REFERENCE_WRITES: u64 = 2;
 
-/// A try that was spent on a store in memory.
+const MOST_TRIES: u8 = 15;
+
+/// A try that was spent on a store in memory. It can be neither copied nor dropped: `matches` or `give_up`
+/// ends it.
+#[must_use]
 pub struct Ticket {
     reference: RefId,
 }
@@ -33,23 +37,27 @@ pub struct MemoryStore {
     memory: CardMemory,
     on: bool,
     plan: Plan,
+    // Says what contracts know of the store. No answer depends on it.
     told: bool,
     ghost sound: { IfSome (told_if told memory) IsSound } by { Prim.hlevel props },
 }
 
 impl MemoryStore {
+    ghost use Rattle.memory_store.specs.Kept.{memory_of, plan_of, left_by};
+
     /// A store with power that holds the memory of a start. `losses` are the losses to come, by rising
     /// numbers of writes from 1.
     pub fn new(alloc: Global, start: &Start, losses: Vec<Loss>) -> Result<MemoryStore, NoMemory>
         requires spells { SpellsMemory start.now }
         requires rises { RisesFrom 0 (write_numbers losses.items) }
-        ensures { IfOk result (λ store. ⟦<MemoryStore as Store>⟧.state store ≡ record {
+        ensures state { IfOk result (λ store. ⟦<MemoryStore as Store>⟧.state store ≡ record {
           mem = Some (memory_of_start start.now);
           on = true;
           losses = 0;
           span = length losses.items;
           due = Some (write_numbers losses.items);
         }) }
+        ensures losses { IfOk result (λ store. to_come (plan_of store) ≡ losses.items) }
     {
         let memory = CardMemory::new(alloc, start)?;
         Ok(MemoryStore {
@@ -61,49 +69,39 @@ impl MemoryStore {
     }
 
     /// The same store, which tells neither its memory nor when losses are due.
-    pub fn untold(self) -> MemoryStore
-        ensures { let state = ⟦<MemoryStore as Store>⟧.state in
+    pub fn untold(mut self) -> MemoryStore
+        ensures state { let state = ⟦<MemoryStore as Store>⟧.state in
             state result ≡ record (state self) { mem = None; due = None } }
+        ensures memory { memory_of result ≡ memory_of self }
+        ensures plan { plan_of result ≡ plan_of self }
     {
-        let MemoryStore {
-            memory,
-            on,
-            plan,
-            told: _,
-        } = self;
-        MemoryStore {
-            memory,
-            on,
-            plan,
-            told: false,
-        }
+        self.told = false;
+        self
     }
 
-    // Changes the references.
-    fn change(&mut self, change: Change) -> Result<(), Lost>
+    // Makes so many writes, which change the memory. A loss among them turns the power off.
+    #[tactic(auto, using(crate::proofs::Sounds::told_changed))]
+    fn change(&mut self, writes: u64, change: &Change<'_>) -> Result<(), Lost>
         requires on { IsTrue self.old.on }
-        requires sound { IfSome (told_if self.old.told self.old.memory) (λ m. IsSound (changed_by change m)) }
+        requires short { length (bytes_put change.now) ≤ 16384 }
+        requires form { IfSome (told_if self.old.told self.old.memory) (λ m. IsTrue (may_be_made change.now m)) }
         ensures ok { let state = ⟦<MemoryStore as Store>⟧.state in
-            OnOk result (state self.new ≡ changed 2 (changed_by change) (state self.old)) }
+            OnOk result (state self.new ≡ changed writes (changed_by change.now) (state self.old)) }
         ensures lost { let state = ⟦<MemoryStore as Store>⟧.state in
-            OnErr result (CutShort 2 (changed_by change) (state self.old) (state self.new)) }
-        ensures due { LostWhereDue 2 (⟦<MemoryStore as Store>⟧.state self.old).due result }
+            OnErr result (CutShort writes (changed_by change.now) (state self.old) (state self.new)) }
+        ensures left { memory_of self.new ≡
+            left_by (leaves_in writes (to_come (plan_of self.old))) (changed_by change.now) (memory_of self.old) }
+        ensures due { LostWhereDue writes (⟦<MemoryStore as Store>⟧.state self.old).due result }
     {
-        match self.plan.make(REFERENCE_WRITES) {
-            None => {
-                self.memory.change(change);
-                Ok(())
-            }
-            Some(Leaves::Old) => {
-                self.on = false;
-                Err(Lost)
-            }
-            Some(Leaves::New) => {
-                self.memory.change(change);
-                self.on = false;
-                Err(Lost)
-            }
+        let loss = self.plan.make(writes);
+        if loss != Some(Leaves::Old) {
+            self.memory.change(change);
         }
+        if loss.is_some() {
+            self.on = false;
+            return Err(Lost);
+        }
+        Ok(())
     }
 }
 
@@ -134,13 +132,13 @@ impl Store for MemoryStore {
 
     fn tries(&self, r: RefId) -> u8 {
         match self.memory.reference(r) {
-            Some(x) => x.tries.min(15),
+            Some(x) => x.tries.min(MOST_TRIES),
             None => 0,
         }
     }
 
     fn spend(&mut self, r: RefId) -> Result<Ticket, Lost> {
-        self.change(Change::Spend(r))?;
+        self.change(REFERENCE_WRITES, &Change::Spend(r))?;
         Ok(Ticket { reference: r })
     }
 
@@ -157,18 +155,15 @@ impl Store for MemoryStore {
     }
 
     fn restore(&mut self, r: RefId) -> Result<(), Lost> {
-        self.change(Change::Fill(r))?;
-        Ok(())
+        self.change(REFERENCE_WRITES, &Change::Restore(r))
     }
 
     fn renew(&mut self, r: RefId, new: &[u8; 8]) -> Result<(), Lost> {
-        self.change(Change::Renew(r, *new))?;
-        Ok(())
+        self.change(REFERENCE_WRITES, &Change::Renew(r, new))
     }
 
     fn unblock(&mut self, new: &[u8; 8]) -> Result<(), Lost> {
-        self.change(Change::Unblock(*new))?;
-        Ok(())
+        self.change(REFERENCE_WRITES, &Change::Unblock(new))
     }
 
     fn put(&mut self, id: ObjectId, value: &[u8]) -> Result<(), PutFault> {
@@ -176,21 +171,8 @@ impl Store for MemoryStore {
             return Err(PutFault::TooLarge);
         }
         let writes = blocks(value.len()) as u64 + 2;
-        match self.plan.make(writes) {
-            None => {
-                self.memory.put(id, value);
-                Ok(())
-            }
-            Some(Leaves::Old) => {
-                self.on = false;
-                Err(PutFault::Lost)
-            }
-            Some(Leaves::New) => {
-                self.memory.put(id, value);
-                self.on = false;
-                Err(PutFault::Lost)
-            }
-        }
+        self.change(writes, &Change::Put(id, value))
+            .or(Err(PutFault::Lost))
     }
 
     fn length(&self, id: ObjectId) -> usize {

@@ -1,4 +1,4 @@
-ghost use Rattle.std.specs.Prelude.{◌≡◌, true, false, None, IsTrue, OnOk, OnErr, IfOk};
+ghost use Rattle.std.specs.Prelude.{◌≡◌, true, false, None, IfOk};
 ghost use Rattle.loss_words.specs.Due.{RisesFrom};
 ghost use Rattle.piv_model.specs.Forms.{is_secret, is_pin};
 ghost use Rattle.piv_model.specs.Starts.{SpellsMemory};

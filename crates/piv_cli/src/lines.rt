@@ -1,5 +1,5 @@
 // Lines of hexadecimal, each an APDU, and what is written for them.
-ghost use Rattle.std.specs.Prelude.{◌≡◌, [], IsTrue, IfOk, OnOk, Some, length};
+ghost use Rattle.std.specs.Prelude.{◌≡◌, [], IsTrue, IfOk, OnOk, Some};
 ghost use Rattle.piv_model.specs.Base.{Base};
 ghost use Rattle.piv_rules.specs.Acts.{Records};
 ghost use Rattle.card_app.specs.Serves.{served};
@@ -22,7 +22,7 @@ const CONNECTION: u32 = 1;
 // No command draws a random block yet.
 const BLOCK: [u8; 16] = [0; 16];
 
-/// Buffers that each line uses again.
+// Buffers that each line uses again.
 #[derive(Drop)]
 struct Buffers {
     text: Vec<u8>,

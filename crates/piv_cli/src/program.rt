@@ -1,5 +1,5 @@
 // What the program does, over any source and sink.
-ghost use Rattle.std.specs.Prelude.{◌≡◌, ◌≤◌, ◌<◌, ◌+◌, ◌⊎◌, ℕ, List, length, take, Some, None, IsTrue, IfOk, IfSome};
+ghost use Rattle.std.specs.Prelude.{◌≡◌, ◌≤◌, ◌<◌, ◌+◌, ◌⊎◌, ℕ, List, [], length, take, Some, None, IsTrue, IfOk, IfSome};
 ghost use Rattle.piv_model.specs.PlainCard.{plain_memory};
 ghost use Rattle.piv_ports.specs.Ports.{Rises, counted, with_bytes};
 ghost use Rattle.piv_cli.specs.Outputs.{Answered, AnsweredInPart, most_input};
@@ -105,6 +105,7 @@ fn write_out<K: Sink>(sink: &mut K, bytes: &[u8]) -> Status
 fn plain_store(alloc: Global) -> Result<MemoryStore, NoMemory>
     ensures on { IfOk result (λ store. IsTrue (⟦<MemoryStore as Store>⟧.state store).on) }
     ensures memory { IfOk result (λ store. (⟦<MemoryStore as Store>⟧.state store).mem ≡ Some plain_memory) }
+    ensures never_lost { IfOk result (λ store. (⟦<MemoryStore as Store>⟧.state store).due ≡ Some []) }
 {
     let start = plain_start(alloc)?;
     MemoryStore::new(alloc, &start, Vec::new(alloc))

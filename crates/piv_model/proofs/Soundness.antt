@@ -10,9 +10,9 @@ use Rattle.piv_model.specs.declared.kinds.RefId.{RefId}
 use Rattle.piv_model.specs.declared.kinds.RefId.TheVariants.{Pin, Puk, GlobalPin}
 use Rattle.piv_model.specs.declared.kinds.KeyId.TheVariants.{AdminKey, CardAuth}
 use Rattle.piv_model.specs.Forms.{is_pin, is_secret}
-use Rattle.piv_model.specs.Memory.{Memory, Reference, blocks, blocks_used, fits}
+use Rattle.piv_model.specs.Memory.{Memory, Reference, blocks, blocks_used, fits, is_short}
 use Rattle.piv_model.specs.Changes.{change_reference, one_less, full, renewed, unblocked, with_object}
-use Rattle.piv_model.specs.Sound.{IsSound, is_limited, is_limited_if_any, is_short, may_stand}
+use Rattle.piv_model.specs.Sound.{IsSound, is_limited, is_limited_if_any, may_stand}
 use Rattle.piv_model.specs.Base.{Base, is_valid}
 
 -- ---- references

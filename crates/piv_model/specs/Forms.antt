@@ -1,6 +1,6 @@
 -- The forms of secrets and of the Discovery Object (SP 800-73-4 part 1, the Discovery Object; part 2, VERIFY, CHANGE
 -- REFERENCE DATA and RESET RETRY COUNTER).
-use Rattle.std.specs.Prelude.{ℕ, Bool, true, false, not, ◌&&◌, ◌||◌, ◌==◌, nat_le, List, [], ◌∷◌, ◌++◌, length, take, drop, slice_index}
+use Rattle.std.specs.Prelude.{ℕ, Bool, ◌&&◌, ◌||◌, ◌==◌, nat_le, List, [], ◌∷◌, ◌++◌, length, take, drop, slice_index}
 use Rattle.std.specs.List.{list_all}
 use Rattle.std.specs.Str.{bytes_eq}
 use Rattle.piv_model.specs.declared.kinds.RefId.{RefId}
@@ -22,12 +22,6 @@ is_pin p =
 abbrev pub is_puk : List ℕ → Bool
 is_puk p = length p == 8
 
--- the values of this reference have the form of a PIN
-abbrev pub has_pin_form : RefId → Bool
-has_pin_form Pin = true
-has_pin_form GlobalPin = true
-has_pin_form Puk = false
-
 -- a value of this reference
 abbrev pub is_secret : RefId → List ℕ → Bool
 is_secret Pin p = is_pin p
@@ -36,8 +30,7 @@ is_secret Puk p = is_puk p
 
 -- the old and the new value of a reference
 abbrev pub is_pair : RefId → List ℕ → Bool
-is_pair r bytes =
-    (length bytes == 16) && (not (has_pin_form r) || (is_pin (take 8 bytes) && is_pin (drop 8 bytes)))
+is_pair r bytes = (length bytes == 16) && is_secret r (take 8 bytes) && is_secret r (drop 8 bytes)
 
 -- a PUK and a new PIN
 abbrev pub is_puk_and_pin : List ℕ → Bool

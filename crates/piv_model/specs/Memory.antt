@@ -57,6 +57,10 @@ blocks n = (n + 63) / 64
 abbrev pub blocks_used : List (List ℕ) → ℕ
 blocks_used objects = sum_by (λ o. blocks (length o)) objects
 
+-- no value has more bytes
+abbrev pub is_short : List ℕ → Bool
+is_short v = nat_le (length v) 16384
+
 -- there is room for one more value beside all objects present
 unfoldable pub fits : Memory → List ℕ → Bool
-fits m v = nat_le (length v) 16384 && nat_le (blocks (length v) + blocks_used m.objects) m.budget
+fits m v = is_short v && nat_le (blocks (length v) + blocks_used m.objects) m.budget

@@ -5,7 +5,7 @@ use Rattle.std.specs.List.{list_all}
 use Rattle.piv_model.specs.declared.kinds.RefId.{RefId}
 use Rattle.piv_model.specs.declared.kinds.KeyId.{KeyId}
 use Rattle.piv_model.specs.Forms.{is_secret, is_discovery}
-use Rattle.piv_model.specs.Memory.{Memory, Reference, CardKey, has, reference, key_at, stored, blocks_used}
+use Rattle.piv_model.specs.Memory.{Memory, Reference, CardKey, has, reference, key_at, stored, is_short, blocks_used}
 
 -- a limit is 1 to 15, and the tries are at most it
 abbrev pub is_limited : Reference → Bool
@@ -28,9 +28,6 @@ is_card_key k = is_algorithm k.algorithm && (length k.key == key_size k.algorith
 -- a value that the object of a place may have; the Discovery Object stands at place 10
 abbrev pub may_stand : Bool → ℕ → List ℕ → Bool
 may_stand has_global place v = not (place == 10) || (length v == 0) || is_discovery has_global v
-
-abbrev pub is_short : List ℕ → Bool
-is_short v = nat_le (length v) 16384
 
 pub record IsSound (m : Memory) : Type 0 where
   pub limits : (r : RefId) → IsTrue (has m r) → IsTrue (is_limited (reference m r))

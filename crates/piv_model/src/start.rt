@@ -1,7 +1,6 @@
 // What a card begins with.
-ghost use Rattle.std.specs.Prelude.{◌≡◌, ◌<◌, [], ◌∷◌, ◌++◌, length, map, replicate, Some, IfOk, OnOk, OnErr, slice_get};
-ghost use Rattle.piv_model.specs.Starts.{value_at, memory_of_start, SpellsMemory};
-ghost use Rattle.piv_model.specs.PlainCard.{plain_memory};
+ghost use Rattle.std.specs.Prelude.{◌≡◌, ◌<◌, [], ◌∷◌, ◌++◌, length, map, Some, IfOk, OnOk, OnErr, slice_get};
+ghost use Rattle.piv_model.specs.Starts.{value_at};
 
 use crate::objects::ObjectId;
 use crate::store::NoMemory;

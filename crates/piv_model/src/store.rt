@@ -40,8 +40,8 @@ pub enum PutFault {
 /// losses, and all that its clauses don't name, are as before. A call of so many writes is lost exactly where
 /// the first loss that is due comes within them, if the store tells when losses are due.
 pub trait Store {
-    /// Stands for a try that was spent. A store alone makes one, and it has to be given to `matches` or to
-    /// `give_up`.
+    /// Stands for a try that was spent. Over any store it can be neither made, copied nor dropped: `spend`
+    /// gives it, and `matches` or `give_up` takes it. A store keeps its own type as closed.
     type Ticket;
 
     /// What the store means.

@@ -1,10 +1,8 @@
 -- When a data field is not of the form of GET DATA or PUT DATA.
-use Rattle.std.proofs.Common.{◌≡◌, ◌≢◌, ℕ, Bool, false, true≢false, Result, Ok, Err, List, [], ◌∷◌, ◌++◌, length, take, drop, get_or, refl, sym, ap, subst, ◌∙◌, arith}
-use Rattle.std.proofs.lemmas.List.{length-drop, take-append-drop}
+use Rattle.std.proofs.Common.{◌≡◌, ◌≢◌, ℕ, Bool, false, true≢false, Result, Ok, Err, List, [], ◌∷◌, sym, subst, ◌∙◌}
 use Rattle.std.specs.Prelude.{IsTrue, ◌↔◌, IfOk}
 use Rattle.ber_tlv.specs.Elements.{element, AreElements}
 use Rattle.piv_objects.specs.Forms.{IsObjectTag, IsTagList, Put, Object, Discovery, IsPut, ArePartsOf, put_of}
-use Rattle.piv_model.specs.Forms.{discovery_head}
 use Rattle.piv_objects.specs.declared.put.PutFields.{PutFields}
 use Rattle.piv_objects.specs.declared.malformed.Malformed.{Malformed}
 use Rattle.piv_objects.proofs.Begins.{only_one, pair_one, part_first, part_only, part_second}
@@ -38,17 +36,3 @@ put_parts bytes (Discovery value) h = part_only bytes 0x7E value h
 pub if_parts : (bytes : List ℕ) (r : Result PutFields Malformed) → IfOk r (λ put. IsPut bytes (put_of put)) → IfOk r (λ put. ArePartsOf bytes (put_of put))
 if_parts bytes (Ok put) h = put_parts bytes (put_of put) h
 if_parts bytes (Err e) h = tt
-
--- ---- Discovery
-
-two : (xs : List ℕ) → length xs ≡ 2 → xs ≡ get_or xs 0 0 ∷ get_or xs 1 0 ∷ []
-two [] e = absurd (omega arith)
-two (a ∷ []) e = absurd (omega arith)
-two (a ∷ b ∷ []) e = refl
-two (a ∷ b ∷ c ∷ xs) e = absurd (omega arith)
-
-pub policy_stands : (value front policy : List ℕ) (a b : ℕ) → length value ≡ 18 → front ≡ take 16 value → policy ≡ drop 16 value → front ≡ discovery_head → get_or policy 0 0 ≡ a → get_or policy 1 0 ≡ b → value ≡ discovery_head ++ a ∷ b ∷ []
-policy_stands value front policy a b len first last is pa pb =
-    let size : length policy ≡ 2 = omega (arith, ap length last, length-drop 16 value) in
-    let ends : policy ≡ a ∷ b ∷ [] = two policy size ∙ ap (λ (x : ℕ). x ∷ get_or policy 1 0 ∷ []) pa ∙ ap (λ (x : ℕ). a ∷ x ∷ []) pb in
-    sym (take-append-drop 16 value) ∙ ap (λ (x : List ℕ). x ++ drop 16 value) (sym first ∙ is) ∙ ap (λ (x : List ℕ). discovery_head ++ x) (sym last ∙ ends)

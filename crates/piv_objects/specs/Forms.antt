@@ -1,8 +1,6 @@
--- The forms of the data fields of GET DATA and PUT DATA, and of the Discovery object
--- (SP 800-73-4 part 2, GET DATA and PUT DATA, and part 1, Discovery Object).
-use Rattle.std.specs.Prelude.{◌≡◌, ◌≢◌, ◌⊎◌, ℕ, ◌≤◌, List, [], ◌∷◌, ◌++◌, length}
+-- The forms of the data fields of GET DATA and PUT DATA (SP 800-73-4 part 2).
+use Rattle.std.specs.Prelude.{◌≡◌, ◌≢◌, ℕ, ◌≤◌, List, [], ◌∷◌, ◌++◌, length}
 use Rattle.ber_tlv.specs.Elements.{element, AreElements}
-use Rattle.piv_model.specs.Forms.{discovery_head}
 use Rattle.piv_objects.specs.declared.put.PutFields.{PutFields}
 use Rattle.piv_objects.specs.declared.put.PutFields.TheVariants as lent
 
@@ -39,13 +37,3 @@ IsPut bytes (Object tag value) =
     AreElements bytes (element 0x5C tag ∷ element 0x53 value ∷ [])
     × IsObjectTag tag × (tag ≢ 0x7E ∷ [])
 IsPut bytes (Discovery value) = AreElements bytes (element 0x7E value ∷ [])
-
--- The PIN usage policy: the card's PIN alone, or with the Global PIN, of which either may be the
--- primary one.
-abbrev pub IsPolicy : List ℕ → Type 0
-IsPolicy policy =
-    (policy ≡ 0x40 ∷ 0x00 ∷ []) ⊎ (policy ≡ 0x60 ∷ 0x10 ∷ []) ⊎ (policy ≡ 0x60 ∷ 0x20 ∷ [])
-
--- The value of the Discovery object: the full AID, and the policy.
-abbrev pub IsDiscovery : List ℕ → List ℕ → Type 0
-IsDiscovery value policy = (value ≡ discovery_head ++ policy) × IsPolicy policy

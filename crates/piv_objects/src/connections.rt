@@ -17,7 +17,7 @@ fn is_name(name: &[u8]) -> bool
         })
 }
 
-/// The text of a name.
+// The text of a name.
 fn name_of(bytes: &[u8]) -> Result<&str, Malformed>
     ensures ok { IfOk result (λ name. (name.now ≡ bytes.now) × IsName bytes.now) }
     ensures err { OnErr result (¬ IsName bytes.now) }

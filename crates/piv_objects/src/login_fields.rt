@@ -8,7 +8,7 @@ use crate::logins::{Authenticator, Authenticators};
 use crate::malformed::Malformed;
 use arrayvec::ArrayVec;
 
-/// The values of the elements 81 and 83, which stand in either order.
+// The values of the elements 81 and 83, which stand in either order.
 fn read_parts(bytes: &[u8]) -> Result<(&[u8], &[u8]), Malformed>
     ensures ok { IfOk result (λ x. AreParts bytes.now x.0.now x.1.now) }
     ensures err { OnErr result ((pin reference : List ℕ) → ¬ AreParts bytes.now pin reference) }
@@ -22,7 +22,7 @@ fn read_parts(bytes: &[u8]) -> Result<(&[u8], &[u8]), Malformed>
     }
 }
 
-/// A PIN has 1 to 255 bytes.
+// A PIN has 1 to 255 bytes.
 fn is_pin(pin: &[u8]) -> bool
     ensures { IsTrue result ↔ IsPin pin.now }
 {
@@ -47,7 +47,7 @@ fn read_authenticator(bytes: &[u8]) -> Result<Authenticator<'_>, Malformed>
     }
 }
 
-/// The first authenticator, and what follows it.
+// The first authenticator, and what follows it.
 fn read_first(bytes: &[u8]) -> Result<(Authenticator<'_>, &[u8]), Malformed>
     ensures ok { IfOk result (λ x. BeginsWithOne bytes.now (credential_of x.0) x.1.now) }
     ensures err { OnErr result ((c : Credential) (rest : List ℕ) →

@@ -6,7 +6,7 @@ ghost use Rattle.piv_objects.specs.Authenticators.{Credential, credential_of};
 use arrayvec::ArrayVec;
 use std::marker::Model;
 
-/// How many authenticators a login has at most.
+// How many authenticators a login has at most.
 const MOST: usize = 8;
 
 /// A PIN, lent from the input, and the key reference that it is for.

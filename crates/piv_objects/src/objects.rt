@@ -1,13 +1,13 @@
 //! GET DATA and the Discovery object.
 
-ghost use Rattle.std.specs.Prelude.{◌≡◌, ◌↔◌, List, ℕ, IsTrue, IfOk, OnErr};
-ghost use Rattle.piv_objects.specs.Forms.{IsPartOf, IsObjectTag, IsTagList, IsDiscovery};
-ghost use Rattle.piv_model.specs.Forms.{discovery_head};
+ghost use Rattle.std.specs.Prelude.{◌≡◌, ◌↔◌, List, ℕ, true, false, drop, IsTrue, IfOk, OnOk, OnErr};
+ghost use Rattle.piv_model.specs.Forms.{is_policy, is_discovery};
+ghost use Rattle.piv_objects.specs.Forms.{IsPartOf, IsObjectTag, IsTagList};
 
 use crate::elements::only;
 use crate::malformed::Malformed;
 
-/// The tag of an object has 1 to 3 bytes.
+// The tag of an object has 1 to 3 bytes.
 fn is_object_tag(tag: &[u8]) -> bool
     ensures { IsTrue result ↔ IsObjectTag tag.now }
 {
@@ -29,34 +29,31 @@ pub fn tag_list(body: &[u8]) -> Result<&[u8], Malformed>
     }
 }
 
-/// What stands before the policy.
+// What stands before the policy.
 const DISCOVERY_HEAD: [u8; 16] = [
     0x4F, 0x0B, 0xA0, 0x00, 0x00, 0x03, 0x08, 0x00, 0x00, 0x10, 0x00, 0x01, 0x00, 0x5F, 0x2F, 0x02,
 ];
 
-fn is_discovery_head(front: &[u8]) -> bool
-    ensures { IsTrue result ↔ (front.now ≡ discovery_head) }
+// A policy that some card may have.
+fn is_policy(policy: &[u8]) -> bool
+    ensures { result ≡ is_policy true policy.now }
 {
-    front == DISCOVERY_HEAD.as_slice()
+    policy == [0x40, 0x00].as_slice()
+        || policy == [0x60, 0x10].as_slice()
+        || policy == [0x60, 0x20].as_slice()
 }
 
 /// The PIN usage policy of a Discovery object: 40 00, 60 10 or 60 20
 /// (SP 800-73-4 part 1, Discovery Object).
+#[tactic(auto, unfolding(piv_model::specs::Forms::is_discovery))]
 pub fn discovery(value: &[u8]) -> Result<[u8; 2], Malformed>
-    ensures ok { IfOk result (λ policy. IsDiscovery value.now policy) }
-    ensures err { OnErr result ((policy : List ℕ) → ¬ IsDiscovery value.now policy) }
+    ensures ok { OnOk result (is_discovery true value.now ≡ true) }
+    ensures policy { IfOk result (λ policy. policy ≡ drop 16 value.now) }
+    ensures err { OnErr result (is_discovery true value.now ≡ false) }
 {
-    if value.len() != 18 {
+    let (front, policy) = value.split_at_checked(16).ok_or(Malformed)?;
+    if front != DISCOVERY_HEAD.as_slice() || !is_policy(policy) {
         return Err(Malformed);
     }
-    let (front, policy) = value.split_at(16);
-    if !is_discovery_head(front) {
-        return Err(Malformed);
-    }
-    match (policy[0], policy[1]) {
-        (0x40, 0x00) => Ok([0x40, 0x00]),
-        (0x60, 0x10) => Ok([0x60, 0x10]),
-        (0x60, 0x20) => Ok([0x60, 0x20]),
-        _ => Err(Malformed),
-    }
+    policy.try_into().or(Err(Malformed))
 }

@@ -15,7 +15,7 @@ pub enum PutFields<'a> {
     Discovery { value: &'a [u8] },
 }
 
-/// The tag of an object that isn't Discovery.
+// The tag of an object that isn't Discovery.
 fn is_other_tag(tag: &[u8]) -> bool
     ensures { IsTrue result ↔ (IsObjectTag tag.now × (tag.now ≢ 0x7E ∷ [])) }
 {

@@ -9,7 +9,7 @@ use crate::malformed::Malformed;
 use ber_tlv::{Cursor, Tlv};
 use piv_model::AuthFields;
 
-/// The fields with one more, which is not there yet.
+// The fields with one more, which is not there yet.
 fn with_field<'a>(found: AuthFields<'a>, field: Tlv<'a>) -> Result<AuthFields<'a>, Malformed>
     ensures ok { IfOk result (λ fields.
         Adds (fields_of found.entry) (element_of field.entry ∷ []) (fields_of fields)) }
@@ -46,7 +46,7 @@ fn with_field<'a>(found: AuthFields<'a>, field: Tlv<'a>) -> Result<AuthFields<'a
     }
 }
 
-/// The fields that the bytes are.
+// The fields that the bytes are.
 fn read_fields(bytes: &[u8]) -> Result<AuthFields<'_>, Malformed>
     ensures ok { IfOk result (λ fields. Holds bytes.now (fields_of fields)) }
     ensures err { OnErr result ((fields : Fields) → ¬ Holds bytes.now fields) }

@@ -1,5 +1,5 @@
 // A source of bytes, and a reader of all of them.
-ghost use Rattle.std.specs.Prelude.{◌≡◌, ◌≤◌, ◌<◌, ◌+◌, ◌↔◌, ℕ, List, [], length, Option, Some, None, IfOk, OnOk, OnErr, IfSome, IsErrOf};
+ghost use Rattle.std.specs.Prelude.{◌≡◌, ◌≤◌, ◌<◌, ◌+◌, ◌↔◌, ℕ, List, [], length, Option, Some, IfOk, OnOk, OnErr, IfSome, IsErrOf};
 ghost use Rattle.piv_ports.specs.Ports.{AreFirst, Rises, TakesAtMost, after_first_bytes, counted};
 ghost use Rattle.piv_ports.specs.declared.source.ReadStop.TheVariants.{NoMemory};
 

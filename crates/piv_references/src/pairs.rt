@@ -5,7 +5,7 @@ ghost use Rattle.piv_model.specs.Forms.{is_secret, is_pair, is_puk_and_pin};
 use crate::secrets::{read_pin, read_puk};
 use piv_model::RefId;
 
-/// A value of a reference.
+// A value of a reference.
 fn read_secret(r: RefId, bytes: &[u8]) -> Option<[u8; 8]>
     ensures { result ≡ (if is_secret r bytes.now then Some bytes.now else None) }
 {

@@ -1,16 +1,16 @@
 use super::*;
 use piv_model::RefId;
 
-/// The PIN 123456.
+// The PIN 123456.
 const PIN: [u8; 8] = [0x31, 0x32, 0x33, 0x34, 0x35, 0x36, 0xFF, 0xFF];
 
-/// The PIN 654321.
+// The PIN 654321.
 const NEW_PIN: [u8; 8] = [0x36, 0x35, 0x34, 0x33, 0x32, 0x31, 0xFF, 0xFF];
 
-/// Eight bytes that are no PIN.
+// Eight bytes that are no PIN.
 const ANY: [u8; 8] = [0x00, 0xFF, 0x41, 0x31, 0x80, 0x7F, 0x30, 0x3A];
 
-/// Two values, and a byte behind them.
+// Two values, and a byte behind them.
 fn with_a_byte_behind(first: [u8; 8], second: [u8; 8]) -> [u8; 17] {
     let mut bytes = [0xFF; 17];
     bytes[..8].copy_from_slice(&first);

@@ -8,7 +8,7 @@ use Rattle.piv_rules.specs.Connections.{breaks, by_call, selected_after}
 use Rattle.piv_rules.specs.Logins.{Login, PinLogin, GlobalLogin, AdminLogin, login_after, pin_after, global_after, admin_after, pending_after}
 use Rattle.piv_rules.specs.Channels.{channel}
 use Rattle.piv_rules.specs.Acts.{entries}
-use Rattle.piv_rules.specs.Frames.{joined, parts, parts_with, commands_of, chain, given_length, rest_with, rest_after, rest}
+use Rattle.piv_rules.specs.Frames.{joined, parts, parts_with, commands_of, chain, given_length, rest_with, rest}
 use Rattle.piv_rules.specs.HistoryLaws.{LoginsAreApart, ChannelsAreApart, FramesAreApart, ReselectingKeeps, is_call_on, is_exchange_on}
 
 -- an entry that is no call on c says nothing of it
@@ -62,24 +62,24 @@ parts_with-other (Cut r) ks G c before h u = absurd (cc)
 parts_with-other (Up t) ks G c before h u = refl
 parts_with-other (Note a w) ks G c before h u = refl
 
-rest_with-other : (B : Base) (e : CardEntry) (m : ℕ) (G : Past) (c n : ℕ) (before : ℕ → List ℕ)
-    → is_exchange_on c e ≡ false → breaks c G e ≡ false → rest_with B e m G c n before ≡ before n
-rest_with-other B (Part d) m G c n before h u = rw h refl
-rest_with-other B (Call d k word block) m G c n before h u = rw h refl
-rest_with-other B (Rest d) m G c n before h u = rw h refl
-rest_with-other B (Bad d word) m G c n before h u = rw h refl
-rest_with-other B (Opened d i shared) m G c n before h u = rw u refl
-rest_with-other B (Closed d) m G c n before h u = refl
-rest_with-other B (Reset i) m G c n before h u = rw u refl
-rest_with-other B (Cut r) m G c n before h u = absurd (cc)
-rest_with-other B (Up t) m G c n before h u = refl
-rest_with-other B (Note a w) m G c n before h u = refl
+rest_with-other : (B : Base) (e : CardEntry) (given : ℕ) (G : Past) (c : ℕ) (before : List ℕ)
+    → is_exchange_on c e ≡ false → breaks c G e ≡ false → rest_with B e given G c before ≡ before
+rest_with-other B (Part d) given G c before h u = rw h refl
+rest_with-other B (Call d k word block) given G c before h u = rw h refl
+rest_with-other B (Rest d) given G c before h u = rw h refl
+rest_with-other B (Bad d word) given G c before h u = rw h refl
+rest_with-other B (Opened d i shared) given G c before h u = rw u refl
+rest_with-other B (Closed d) given G c before h u = refl
+rest_with-other B (Reset i) given G c before h u = rw u refl
+rest_with-other B (Cut r) given G c before h u = absurd (cc)
+rest_with-other B (Up t) given G c before h u = refl
+rest_with-other B (Note a w) given G c before h u = refl
 
 pub FramesAreApart-law : FramesAreApart
 unfolding chain rest
 FramesAreApart-law B R r c apart unbroken = (
   ap joined (parts_with-other r.entry (commands_of r.act) (entries R) c (parts R c) apart unbroken),
-  rest_with-other B r.entry (given_length r.answer) (entries R) c 0 (λ m. rest_after B R c m) apart unbroken,
+  rest_with-other B r.entry (given_length r.answer) (entries R) c (rest B R c) apart unbroken,
 )
 
 pub ruleset apart_laws = (LoginsAreApart-law, ChannelsAreApart-law, FramesAreApart-law, ReselectingKeeps-law)

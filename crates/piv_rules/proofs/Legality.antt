@@ -1,5 +1,5 @@
 -- What runs is legal.
-use Rattle.std.proofs.Common.{◌≡◌, ℕ, suc, zero, ◌+◌, ◌-◌, ◌≤◌, Bool, true, false, List, [], ◌∷◌, Option, Some, None, refl, ap, arith, sym, ◌∙◌, drop, length, inl, inr}
+use Rattle.std.proofs.Common.{◌≡◌, ℕ, suc, zero, ◌+◌, ◌-◌, ◌≤◌, Bool, true, false, List, [], ◌∷◌, Option, Some, None, refl, ap, arith, drop, length, inl, inr}
 use Rattle.std.specs.Prelude.{if◌then◌else◌, IsTrue, ◌==◌, not, ◌&&◌, ◌||◌, take, nat_lt, slice_index}
 use Rattle.std.specs.List.{list_any}
 use Rattle.piv_model.specs.declared.history.ActKind.TheVariants as kind
@@ -11,12 +11,11 @@ use Rattle.piv_model.specs.Entries.{CardEntry, Past, Opened, Closed, Call, Part,
 use Rattle.piv_model.specs.Base.{Base}
 use Rattle.piv_rules.specs.Connections.{breaks, on, is_open, epoch, side}
 use Rattle.piv_rules.specs.Answers.{answer, Reply}
-use Rattle.piv_rules.specs.Legal.{IsLegal, IsAllowed, is_locked, is_full, is_noted, rests_after, open_ones}
+use Rattle.piv_rules.specs.Legal.{IsLegal, IsAllowed, is_locked, is_full, is_noted, rests_left, open_ones}
 use Rattle.piv_rules.specs.Acts.{CardAct, Connect, Disconnect, Exchange, ResetSide, CutPower, PowerOn, CardAnswer, Records, entries}
-use Rattle.piv_rules.specs.Frames.{Frame, BadFrame, PartFrame, RestFrame, WholeFrame, frame, next_piece, frame_of, chained_frame, single_frame, chain, rest, rest_after, rest_with, given_length}
+use Rattle.piv_rules.specs.Frames.{Frame, BadFrame, PartFrame, RestFrame, WholeFrame, frame, next_piece, frame_of, chained_frame, single_frame, chain, rest, rest_with, given_length}
 use Rattle.piv_rules.specs.Turns.{IsTurnedBy, Runs, refused, IsExchanged, kind_of, cut_reply}
-use Rattle.std.proofs.Common.{length-take, length-drop, le-leb, eqb-true, subst}
-use Rattle.std.specs.Prelude.{nat_le}
+use Rattle.std.proofs.Common.{length-take, length-drop, eqb-true, subst}
 use Rattle.std.proofs.lemmas.Bool.Decides.{nat_tests}
 use Rattle.piv_model.specs.declared.history.Refusal.{Refusal}
 use Rattle.piv_model.specs.declared.history.Refusal.TheVariants as why
@@ -165,62 +164,53 @@ Gives-turned B R (ResetSide i) e a None t = rw t.0 tt
 Gives-turned B R CutPower e a None t = rw t.0 tt
 Gives-turned B R PowerOn e a None (t, m, is_up, told) = rw is_up tt
 
--- where data are left after n bytes, the connection's last Call gave more than that
-enough : (m n g : ℕ) (body xs : List ℕ) (x : ℕ) → (1 ≤ length body → 1 ≤ g) → m ≤ n → drop (g + n) body ≡ x ∷ xs → nat_le (m + 2) (length body) ≡ true
-enough m n g body xs x gives le h =
-    let left : length body - (g + n) ≡ suc (length xs) = sym (length-drop (g + n) body) ∙ ap length h in
-    let there : 1 ≤ length body = omega arith in
-    let given_one = gives there in
-    le-leb (m + 2) (length body) (omega arith)
+-- either nothing waits, or what was there before
+at_most_before : (b : Bool) (before : List ℕ) (left : ℕ) → length before ≤ left
+    → length (if b then [] else before) ≤ (if b then 0 else left)
+at_most_before true before left h = omega arith
+at_most_before false before left h = h
 
-Waits : Base → Past → ℕ → (ℕ → List ℕ) → Type 0
-Waits B G c before = (n m x : ℕ) (xs : List ℕ) → m ≤ n → before n ≡ x ∷ xs → rests_after B G c m ≡ true
-
-no-data : (x : ℕ) (xs : List ℕ) (A : Type 0) → ◌≡◌ {A = List ℕ} [] (x ∷ xs) → A
-no-data x xs A h = absurd (cc)
-
--- either nothing waits, or what was there before still waits
-either : (b : Bool) (x : ℕ) (xs before : List ℕ) (r : Bool) → (before ≡ x ∷ xs → r ≡ true)
-    → (if b then [] else before) ≡ x ∷ xs → (if b then false else r) ≡ true
-either true x xs before r h k = no-data x xs _ k
-either false x xs before r h k = h k
-
-waits-with : (B : Base) (e : CardEntry) (g : ℕ) (G : Past) (c : ℕ) (before : ℕ → List ℕ) → Gives B G e g
-    → ((n m x : ℕ) (xs : List ℕ) → m ≤ n → before n ≡ x ∷ xs → rests_after B G c m ≡ true)
-    → (n m x : ℕ) (xs : List ℕ) → m ≤ n → rest_with B e g G c n before ≡ x ∷ xs → rests_after B (e ∷ G) c m ≡ true
-waits-with B (Call d k word block) g G c before gives ih n m x xs le h = own (d == c) refl h
+-- no more bytes wait than Rests may come
+waits-with : (B : Base) (e : CardEntry) (g : ℕ) (G : Past) (c : ℕ) (before : List ℕ) → Gives B G e g
+    → length before ≤ rests_left B G c → length (rest_with B e g G c before) ≤ rests_left B (e ∷ G) c
+waits-with B (Call d k word block) g G c before gives h = own (d == c) refl
   where
-    data_left : (b : Bool) → is_granted word ≡ b → d ≡ c → (if b then drop (g + n) (answer B G c k).body else []) ≡ x ∷ xs
-        → (b && nat_le (m + 2) (length (answer B G c k).body)) ≡ true
-    data_left true is same j =
-        enough m n g (answer B G c k).body xs x (let P : ℕ → Type 0 = λ j. 1 ≤ length (answer B G j k).body → 1 ≤ g in subst P same (gives is)) le j
-    data_left false is same j = no-data x xs _ j
+    data_left : (b : Bool) → is_granted word ≡ b → d ≡ c
+        → length (if b then drop g (answer B G c k).body else []) ≤ (if b then length (answer B G c k).body - 1 else 0)
+    data_left true is same =
+        let gives_one = let P : ℕ → Type 0 = λ j. 1 ≤ length (answer B G j k).body → 1 ≤ g in subst P same (gives is) in
+        at_least (answer B G c k).body gives_one
+      where
+        at_least : (body : List ℕ) → (1 ≤ length body → 1 ≤ g) → length (drop g body) ≤ length body - 1
+        at_least [] one = let size : length {A = ℕ} (drop g []) ≡ 0 - g = length-drop g [] in omega arith
+        at_least (x ∷ xs) one = let size = length-drop g (x ∷ xs) in let first = one (omega arith) in omega arith
+    data_left false is same = omega arith
 
     own : (b : Bool) → (d == c) ≡ b
-        → (if b then (if is_granted word then drop (g + n) (answer B G c k).body else []) else before n) ≡ x ∷ xs
-        → (if b then is_granted word && nat_le (m + 2) (length (answer B G c k).body) else rests_after B G c m) ≡ true
-    own true is j = data_left (is_granted word) refl (eqb-true d c is) j
-    own false is j = ih n m x xs le j
-waits-with B (Rest d) g G c before gives ih n m x xs le h = go (d == c) h
+        → length (if b then (if is_granted word then drop g (answer B G c k).body else []) else before)
+        ≤ (if b then (if is_granted word then length (answer B G c k).body - 1 else 0) else rests_left B G c)
+    own true is = data_left (is_granted word) refl (eqb-true d c is)
+    own false is = h
+waits-with B (Rest d) g G c before gives h = go (d == c)
   where
-    go : (b : Bool) → (if b then before (g + n) else before n) ≡ x ∷ xs → (if b then rests_after B G c (m + 1) else rests_after B G c m) ≡ true
-    go true k = ih (g + n) (m + 1) x xs (omega (arith, gives)) k
-    go false k = ih n m x xs le k
-waits-with B (Part d) g G c before gives ih n m x xs le h = either (d == c) x xs (before n) _ (ih n m x xs le) h
-waits-with B (Bad d word) g G c before gives ih n m x xs le h = either (d == c) x xs (before n) _ (ih n m x xs le) h
-waits-with B (Opened d i shared) g G c before gives ih n m x xs le h = either (breaks c G (Opened d i shared)) x xs (before n) _ (ih n m x xs le) h
-waits-with B (Closed d) g G c before gives ih n m x xs le h = ih n m x xs le h
-waits-with B (Reset i) g G c before gives ih n m x xs le h = either (breaks c G (Reset i)) x xs (before n) _ (ih n m x xs le) h
-waits-with B (Cut running) g G c before gives ih n m x xs le h = no-data x xs _ h
-waits-with B (Up took) g G c before gives ih n m x xs le h = ih n m x xs le h
-waits-with B (Note act w) g G c before gives ih n m x xs le h = ih n m x xs le h
+    go : (b : Bool) → length (if b then drop g before else before) ≤ (if b then rests_left B G c - 1 else rests_left B G c)
+    go true = let size = length-drop g before in omega (arith, gives)
+    go false = h
+waits-with B (Part d) g G c before gives h = at_most_before (d == c) before _ h
+waits-with B (Bad d word) g G c before gives h = at_most_before (d == c) before _ h
+waits-with B (Opened d i shared) g G c before gives h = at_most_before (breaks c G (Opened d i shared)) before _ h
+waits-with B (Closed d) g G c before gives h = h
+waits-with B (Reset i) g G c before gives h = at_most_before (breaks c G (Reset i)) before _ h
+waits-with B (Cut running) g G c before gives h = omega arith
+waits-with B (Up took) g G c before gives h = h
+waits-with B (Note act w) g G c before gives h = h
 
-waits : (B : Base) (R : Records) (c : ℕ) → Runs B R → (n m x : ℕ) (xs : List ℕ) → m ≤ n → rest_after B R c n ≡ x ∷ xs
-    → rests_after B (entries R) c m ≡ true
-waits B [] c runs n m x xs le h = no-data x xs _ h
-waits B (r ∷ R) c runs n m x xs le h =
-    waits-with B r.entry (given_length r.answer) (entries R) c (rest_after B R c)
-    (Gives-turned B R r.act r.entry r.answer (refused (entries R) r.act) runs.1) (waits B R c runs.0) n m x xs le h
+waits : (B : Base) (R : Records) (c : ℕ) → Runs B R → length (rest B R c) ≤ rests_left B (entries R) c
+unfolding rest
+waits B [] c runs = omega arith
+waits B (r ∷ R) c runs =
+    waits-with B r.entry (given_length r.answer) (entries R) c (rest B R c)
+    (Gives-turned B R r.act r.entry r.answer (refused (entries R) r.act) runs.1) (waits B R c runs.0)
 
 abbrev is_rest : Frame → Bool
 is_rest (RestFrame piece w) = true
@@ -239,13 +229,14 @@ no-rest serves (Ok a) None = no-rest_single serves a
 
 -- where a piece is given, data waited
 rests-of_frame : (B : Base) (R : Records) (c : ℕ) (bytes piece : List ℕ) (w : ℕ) → frame B R c bytes ≡ RestFrame piece w → Runs B R
-    → rests_after B (entries R) c 0 ≡ true
-unfolding frame rest
-rests-of_frame B R c bytes piece w h runs = go (rest_after B R c 0) refl h
+    → 1 ≤ rests_left B (entries R) c
+unfolding frame
+rests-of_frame B R c bytes piece w h runs = go (rest B R c) (waits B R c runs) h
   where
-    go : (ws : List ℕ) → rest_after B R c 0 ≡ ws → frame_of B.serves (framing bytes) (chain R c) ws ≡ RestFrame piece w → rests_after B (entries R) c 0 ≡ true
-    go [] e k = absurd (let p = ap is_rest k in let q = no-rest B.serves (framing bytes) (chain R c) in cc)
-    go (x ∷ xs) e k = waits B R c runs 0 0 x xs (omega arith) e
+    go : (ws : List ℕ) → length ws ≤ rests_left B (entries R) c → frame_of B.serves (framing bytes) (chain R c) ws ≡ RestFrame piece w
+        → 1 ≤ rests_left B (entries R) c
+    go [] few k = absurd (let p = ap is_rest k in let q = no-rest B.serves (framing bytes) (chain R c) in cc)
+    go (x ∷ xs) few k = omega (arith, few)
 
 -- an exchange that reaches the card
 IsAllowed-exchanged : (B : Base) (R : Records) (c most : ℕ) (bytes : List ℕ) (f : Frame) (e : CardEntry) (a : CardAnswer)

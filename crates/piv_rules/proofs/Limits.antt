@@ -123,10 +123,10 @@ up-spends B H r x Done h k may = let e = k.is_spent in absurd (cc)
 left-spends : (B : Base) (H : Past) (e : CardEntry) (r : RefId) → IsAllowed B H e → spends (profile B) r H e ≡ true → 1 ≤ tries B H r
 left-spends B H (Call c k word block) r a h = go (is_granted word) (is_mismatched word) refl h
   where
-    go : (g m : Bool) → is_mismatched word ≡ m → did_so (profile B) (spent_by r) (if g then Some (k, Done) else if m then Some (k, Spent) else None) ≡ true → 1 ≤ tries B H r
+    go : (g m : Bool) → is_mismatched word ≡ m → did_so (profile B) (spent_by r) (Some (k, if g then Done else if m then Spent else Nothing)) ≡ true → 1 ≤ tries B H r
     go true m e j = absurd (let p = spent-comparison r (ask (profile B) k) Done j in let q = p.is_spent in cc)
     go false true e j = let p = spent-comparison r (ask (profile B) k) Spent j in left-call B H c k word r p.candidate p.purpose a.2 e p.compares
-    go false false e j = absurd (cc)
+    go false false e j = absurd (let p = spent-comparison r (ask (profile B) k) Nothing j in let q = p.is_spent in cc)
 left-spends B H (Up took) r a h = go (running H) refl h
   where
     go : (o : Option (ℕ × CardCommand)) → running H ≡ o → did_so (profile B) (spent_by r) (option_map (λ x. (x.1, took)) o) ≡ true → 1 ≤ tries B H r

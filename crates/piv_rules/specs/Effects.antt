@@ -29,6 +29,6 @@ abbrev pub memory_by : Profile → Option (CardCommand × Took) → Memory → M
 memory_by p None m = m
 memory_by p (Some d) m = memory_after (ask p d.0) d.1 m
 
--- how far a command came that is answered this word
+-- how far a command came that is answered this word: 90 00 did it, 63 CX spent a try
 abbrev pub took_by : ℕ → Took
 took_by word = if is_granted word then Done else if is_mismatched word then Spent else Nothing

@@ -12,7 +12,7 @@ use Rattle.piv_rules.specs.Forms.{short_aid, idle_aid}
 use Rattle.piv_rules.specs.Memories.{tries}
 use Rattle.piv_rules.specs.Answers.{Reply, only, piv_template, answer}
 use Rattle.piv_rules.specs.Losses.{MayTake}
-use Rattle.piv_rules.specs.Legal.{IsAllowed, rests_after}
+use Rattle.piv_rules.specs.Legal.{IsAllowed, rests_left}
 use Rattle.piv_rules.specs.Acts.{Records, CardRecord, Connect, Connected, Exchange, Replied}
 use Rattle.piv_rules.specs.Frames.{BadFrame, PartFrame, RestFrame, WholeFrame, frame_of, rest}
 use Rattle.piv_rules.specs.Turns.{called, cut_reply}
@@ -227,7 +227,7 @@ PiecesEnd =
     (chuid_record.answer ≡ Replied (0x53 ∷ 0x04 ∷ 0x3E ∷ 0x00 ∷ []) 0x6102)
     × (frame_of all_served get_response_apdu None (rest plain chuid_given 1) ≡ RestFrame (0xFE ∷ 0x00 ∷ []) 0x9000)
     × (frame_of all_served get_response_apdu None (rest plain (chuid_given ▸ rest_record) 1) ≡ BadFrame 0x6985)
-    × (rests_after plain (after plain start (select full_aid ∷ get_chuid ∷ [])) 1 0 ≡ true)
+    × (rests_left plain (after plain start (select full_aid ∷ get_chuid ∷ [])) 1 ≡ 5)
 
 -- ---- losses of power
 

@@ -45,22 +45,19 @@ abbrev pub given_length : CardAnswer → ℕ
 given_length (Replied body word) = length body
 given_length _ = 0
 
--- the data that a connection may still fetch: those of its last Call, where this was granted and only Rests came after
--- it, without what it and they have given; n bytes of them were given later
-abbrev pub rest_with : Base → CardEntry → ℕ → Past → ℕ → ℕ → (ℕ → List ℕ) → List ℕ
-rest_with B (Call d k word block) m G c n before =
-    if d == c then (if is_granted word then drop (m + n) (answer B G c k).body else []) else before n
-rest_with B (Rest d) m G c n before = if d == c then before (m + n) else before n
-rest_with B (Part d) m G c n before = if d == c then [] else before n
-rest_with B (Bad d word) m G c n before = if d == c then [] else before n
-rest_with B e m G c n before = if breaks c G e then [] else before n
-
-abbrev pub rest_after : Base → Records → ℕ → ℕ → List ℕ
-rest_after B [] c n = []
-rest_after B (r ∷ R) c n = rest_with B r.entry (given_length r.answer) (entries R) c n (λ m. rest_after B R c m)
+-- the data that a connection may still fetch: those of its last Call, where this was granted, without what it and the
+-- Rests after it gave; another exchange of c or a break of c ends them
+abbrev pub rest_with : Base → CardEntry → ℕ → Past → ℕ → List ℕ → List ℕ
+rest_with B (Call d k word block) given G c before =
+    if d == c then (if is_granted word then drop given (answer B G c k).body else []) else before
+rest_with B (Rest d) given G c before = if d == c then drop given before else before
+rest_with B (Part d) given G c before = if d == c then [] else before
+rest_with B (Bad d word) given G c before = if d == c then [] else before
+rest_with B e given G c before = if breaks c G e then [] else before
 
 unfoldable pub rest : Base → Records → ℕ → List ℕ
-rest B R c = rest_after B R c 0
+rest B [] c = []
+rest B (r ∷ R) c = rest_with B r.entry (given_length r.answer) (entries R) c (rest B R c)
 
 -- what an exchange's bytes are: a refusal, a part of a chain, a piece of the rest with its word, or a whole command
 -- and how many bytes its reply may have

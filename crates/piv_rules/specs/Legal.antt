@@ -1,6 +1,6 @@
 -- Which histories are legal: each entry is allowed after those before it (this project's own; the answers of the calls
 -- are those of the ordered table).
-use Rattle.std.specs.Prelude.{◌≡◌, ℕ, zero, suc, ◌+◌, Bool, true, false, not, ◌&&◌, ◌||◌, ◌==◌, nat_lt, nat_le, List, [], ◌∷◌, length, count_by, Option, Some, None, IsTrue, if◌then◌else◌}
+use Rattle.std.specs.Prelude.{◌≡◌, ℕ, zero, suc, ◌+◌, ◌-◌, ◌≤◌, Bool, true, false, not, ◌&&◌, ◌||◌, ◌==◌, nat_lt, nat_le, List, [], ◌∷◌, length, count_by, Option, Some, None, IsTrue, if◌then◌else◌}
 use Rattle.std.specs.List.{list_any}
 use Rattle.piv_model.specs.declared.kinds.Interface.{Interface}
 use Rattle.piv_model.specs.declared.history.ActKind.{ActKind}
@@ -51,16 +51,16 @@ asks_block _ = false
 abbrev pub block_borne : Base → Past → CardCommand → ℕ → Option (List ℕ)
 block_borne B G k word = if asks_block (ask (profile B) k) && is_granted word then Some (next_block B G) else None
 
--- what c exchanged after its last break ends in a Call of 90 00 and Rests, and the Call's data have at least n + 2 bytes,
--- n being the number of these Rests. In the recursion n counts the Rests that come later.
-abbrev pub rests_after : Base → Past → ℕ → ℕ → Bool
-rests_after B [] c n = false
-rests_after B (Call d k word block ∷ G) c n =
-    if d == c then is_granted word && nat_le (n + 2) (length (answer B G c k).body) else rests_after B G c n
-rests_after B (Rest d ∷ G) c n = if d == c then rests_after B G c (n + 1) else rests_after B G c n
-rests_after B (Part d ∷ G) c n = if d == c then false else rests_after B G c n
-rests_after B (Bad d word ∷ G) c n = if d == c then false else rests_after B G c n
-rests_after B (e ∷ G) c n = if breaks c G e then false else rests_after B G c n
+-- how many Rests may come yet on c: as many as its last Call has data, where this was granted, less one for the Call itself
+-- and for each Rest after it, since each gives a byte at least; another exchange of c or a break of c ends them
+abbrev pub rests_left : Base → Past → ℕ → ℕ
+rests_left B [] c = 0
+rests_left B (Call d k word block ∷ G) c =
+    if d == c then (if is_granted word then length (answer B G c k).body - 1 else 0) else rests_left B G c
+rests_left B (Rest d ∷ G) c = if d == c then rests_left B G c - 1 else rests_left B G c
+rests_left B (Part d ∷ G) c = if d == c then 0 else rests_left B G c
+rests_left B (Bad d word ∷ G) c = if d == c then 0 else rests_left B G c
+rests_left B (e ∷ G) c = if breaks c G e then 0 else rests_left B G c
 
 -- a command that writes: only such a one can lose power
 abbrev pub is_writer : Ask → Bool
@@ -91,7 +91,7 @@ IsAllowed B G (Call c k word block) =
     IsTrue (on G) × IsTrue (is_open G c) × (word ≡ (answer B G c k).word) × (block ≡ block_borne B G k word)
 IsAllowed B G (Part c) = IsTrue (on G) × IsTrue (is_open G c)
 IsAllowed B G (Bad c word) = IsTrue (on G) × IsTrue (is_open G c) × IsTrue (is_framing_word word)
-IsAllowed B G (Rest c) = IsTrue (on G) × IsTrue (is_open G c) × IsTrue (rests_after B G c 0)
+IsAllowed B G (Rest c) = IsTrue (on G) × IsTrue (is_open G c) × (1 ≤ rests_left B G c)
 IsAllowed B G (Reset i) = IsTrue (on G)
 IsAllowed B G (Cut None) = IsTrue (on G)
 IsAllowed B G (Cut (Some r)) =

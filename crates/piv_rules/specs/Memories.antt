@@ -8,7 +8,7 @@ use Rattle.piv_model.specs.declared.kinds.Took.TheVariants.{Spent, Done}
 use Rattle.piv_model.specs.Commands.{CardCommand}
 use Rattle.piv_model.specs.Entries.{CardEntry, Past, Call, Cut, Up}
 use Rattle.piv_model.specs.Memory.{Memory, Reference, has, reference, stored}
-use Rattle.piv_rules.specs.StatusWords.{is_granted, is_mismatched}
+use Rattle.piv_rules.specs.Effects.{took_by}
 use Rattle.piv_rules.specs.Lookback.{last_of, count_after, some_entry}
 use Rattle.piv_model.specs.Base.{Base, Profile, profile}
 use Rattle.piv_rules.specs.Asks.{Ask, Put, Compare, Purpose, Change, Unblock, ask}
@@ -27,16 +27,10 @@ cut_short G _ = None
 abbrev pub running : Past → Option (ℕ × CardCommand)
 running H = last_of cut_short None H
 
--- what an entry did to the memory: a command, and how far it came. A Call of 90 00 did its command, one of 63 CX
--- spent a try; an Up tells of the command of the last Cut.
-abbrev pub call_took : CardCommand → ℕ → Option (CardCommand × Took)
-call_took k word =
-    if is_granted word then Some (k, Done)
-    else if is_mismatched word then Some (k, Spent)
-    else None
-
+-- what an entry did to the memory: a command, and how far it came, which a Call's word tells; an Up tells of the command
+-- of the last Cut
 abbrev pub did : Past → CardEntry → Option (CardCommand × Took)
-did G (Call c k word block) = call_took k word
+did G (Call c k word block) = Some (k, took_by word)
 did G (Up took) = option_map (λ r. (r.1, took)) (running G)
 did G _ = None
 

@@ -5,6 +5,7 @@ ghost use Rattle.piv_model.specs.Commands.{command_of};
 ghost use Rattle.piv_model.specs.Entries.{entry_of};
 ghost use Rattle.piv_model.specs.Memory.{reference};
 ghost use Rattle.piv_model.specs.Base.{Base, profile};
+ghost use Rattle.piv_rules.specs.Effects.{took_by};
 ghost use Rattle.piv_rules.specs.Memories.{running, did, filled_by, spent_by, tries};
 ghost use Rattle.piv_rules.specs.Lent.{ask_of, past_of};
 
@@ -25,21 +26,24 @@ pub fn running_at<'a>(entries: &[Entry<'a>]) -> Option<(u32, Command<'a>)>
     }
 }
 
+// How far a command came that is answered this word.
+fn took_at(word: u16) -> Took
+    ensures { result ≡ took_by word }
+{
+    match word {
+        0x9000 => Took::Done,
+        0x63C0..=0x63CF => Took::Spent,
+        _ => Took::Nothing,
+    }
+}
+
 // What an entry did to the memory: a command, and how far it came.
 fn did_by<'a>(entry: &Entry<'a>, before: &[Entry<'a>]) -> Option<(Command<'a>, Took)>
     ensures { option_map (λ d. (command_of d.0, d.1)) result
         ≡ did (past_of before.now) (entry_of entry.now) }
 {
     match entry {
-        Entry::Call { command, sw, .. } => {
-            if *sw == 0x9000 {
-                Some((*command, Took::Done))
-            } else if 0x63C0 <= *sw && *sw <= 0x63CF {
-                Some((*command, Took::Spent))
-            } else {
-                None
-            }
-        }
+        Entry::Call { command, sw, .. } => Some((*command, took_at(*sw))),
         Entry::Up { took } => match running_at(before) {
             Some((_, command)) => Some((command, *took)),
             None => None,

@@ -1,17 +1,34 @@
 -- A match after a spent try.
 use Rattle.std.proofs.Common.{refl, rules}
 use Rattle.std.proofs.lemmas.Grind.{common_steps}
-use Rattle.card_commands.proofs.Calls.{unchanged, filled_after, lost_after}
+use Rattle.card_commands.proofs.Calls.{unchanged, filled_after, lost_after, not_due}
 use Rattle.card_commands.proofs.comparing.compare.Goals as goal
 
-pub returns-then-tries-eq0-clause-carried : goal.returns-then-tries-eq0-clause-carried
-returns-then-tries-eq0-clause-carried g c = unchanged _ _ (λ m. refl) (g.met.S.Store.due_rises c.args.store.now)
+pub returns-then-tries-eq0 : goal.returns-then-tries-eq0
+returns-then-tries-eq0 g c = record {
+  word = search (rules, common_steps);
+  carried = unchanged _ _ (λ m. refl) (g.met.S.Store.due_rises c.args.store.now);
+  broken = search rules;
+  due = search (rules, common_steps);
+}
 
-pub returns-in-Ok-fill-clause-carried : goal.returns-in-Ok-fill-clause-carried
-returns-in-Ok-fill-clause-carried g c = filled_after _ _ _ _ _ c.in-Ok.ensures.ok c.in-Ok.ensures.due c.in-Ok-fill.ensures.ok
+pub returns-in-Ok-fill : goal.returns-in-Ok-fill
+returns-in-Ok-fill g c = record {
+  word = search (rules, common_steps);
+  carried = filled_after _ _ _ _ _ c.in-Ok.ensures.ok c.in-Ok.ensures.due c.in-Ok-fill.ensures.ok;
+  broken = search rules;
+  due = search (rules, common_steps);
+}
 
-pub returns-in-Err-fill-clause-broken : goal.returns-in-Err-fill-clause-broken
-returns-in-Err-fill-clause-broken g c = (
-  lost_after _ _ _ _ _ _ c.in-Ok.ensures.ok c.in-Ok.ensures.due c.in-Err-fill.ensures.lost c.in-Err-fill.ensures.due,
-  search (rules, common_steps),
-)
+pub returns-in-Err-fill : goal.returns-in-Err-fill
+returns-in-Err-fill g c = record {
+  word = search rules;
+  carried = search rules;
+  broken = record {
+    leaves = lost_after _ _ _ _ _ _ c.in-Ok.ensures.ok c.in-Ok.ensures.due c.in-Err-fill.ensures.lost c.in-Err-fill.ensures.due;
+    moment = not_due 2 _ c.in-Ok.ensures.due;
+    cause = search (rules, common_steps);
+    tries = search (rules, common_steps);
+  };
+  due = search (rules, common_steps);
+}

@@ -1,8 +1,6 @@
-use Rattle.std.proofs.Common.{◌≡◌, ℕ, Bool, true, false, refl}
-use Rattle.std.specs.Prelude.{if◌then◌else◌, ◌-◌}
-use Rattle.piv_rules.specs.StatusWords.{tries_word}
-use Rattle.piv_rules.specs.Asks.{Put, Compare}
-use Rattle.piv_rules.specs.Answers.{Reply, only, answer_to, is_blocked, differs, has_no_room, tries_left}
+use Rattle.std.proofs.Common.{◌≡◌, Bool, true, false, refl}
+use Rattle.std.specs.Prelude.{if◌then◌else◌}
+use Rattle.piv_rules.specs.Answers.{Reply, answer_to}
 use Rattle.card_commands.proofs.table.words_are_those_of_the_table.Goals as goal
 
 -- the word of a choice between two answers
@@ -12,8 +10,8 @@ word-if false x y = refl
 
 pub returns-clause-compare : goal.returns-clause-compare
 unfolding answer_to
-returns-clause-compare c s r p purpose piv rule = rw (piv, rule) (simp word-if)
+returns-clause-compare c r p purpose s piv rule = rw (piv, rule) (simp word-if)
 
 pub returns-clause-put : goal.returns-clause-put
 unfolding answer_to
-returns-clause-put c s place v piv rule = rw (piv, rule) (simp word-if)
+returns-clause-put c place v s piv rule = rw (piv, rule) (simp word-if)
