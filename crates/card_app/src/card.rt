@@ -96,7 +96,8 @@ impl<S: Store> Card<S> {
         })
     }
 
-    /// Opens connection `c` on an interface; false where another one is attached.
+    /// Opens connection `c` on an interface; false where another one is attached. `c` must not be
+    /// attached.
     pub fn attach(&mut self, c: u32, interface: Interface) -> bool
         requires { IsAttached self.old c → ⊥ }
         ensures full { (d : ℕ) → IsAttached self.old d → result ≡ false }
@@ -118,9 +119,13 @@ impl<S: Store> Card<S> {
         true
     }
 
-    /// One APDU on connection `c`. `block` is the card's next random block.
+    /// One short APDU (ISO/IEC 7816-4) on the attached connection `c`, over a store with power: the
+    /// executed command with its reply, at most 256 bytes of data, or the word that refuses the
+    /// bytes. `block` isn't read yet.
     pub fn exchange(&mut self, c: u32, bytes: &[u8], block: &[u8; 16]) -> Outcome<'_>
         requires { CanExchange S.state self.old c }
+
+        // Once the lent outcome ends, the card stands for one record more.
         ensures* after { sem 𝓛 (follows_so (the_row S.row) (the_row S.row) self.entry.ghost_name none (λ _ _. ⊤)
             (λ new. CanExchange S.state new c × ((B : Base) (R : Records) (known : ℕ) → StandsFor S.state self.old B R
             → epoch (entries R) (side (entries R) c) ≤ known

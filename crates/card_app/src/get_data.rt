@@ -24,10 +24,7 @@ const DISCOVERY: u8 = 10;
 fn named_tag(body: &[u8]) -> Option<&[u8]>
     ensures { shown result ≡ option_and_then tag_named (elements_of body.now) }
 {
-    match tag_list(body) {
-        Ok(tag) => Some(tag),
-        Err(_) => None,
-    }
+    tag_list(body).ok()
 }
 
 /// The object that a GET DATA asks for, or the word that refuses it.

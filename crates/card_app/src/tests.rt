@@ -1,4 +1,4 @@
-ghost use Rattle.std.specs.Prelude.{IsTrue, IfOk};
+ghost use Rattle.std.specs.Prelude.{◌≡◌, IsTrue, IfOk};
 
 use crate::{Card, Outcome};
 use memory_store::MemoryStore;
@@ -100,5 +100,27 @@ fn one_connection_is_attached(rt: HostRuntime) -> Result<(), Fail> {
     };
     assert!(rt; card.attach(1, Interface::Contact));
     assert!(rt; !card.attach(2, Interface::Contactless));
+    Ok(())
+}
+
+fn moves<T: Send>(value: T) -> T
+    ensures { result ≡ value }
+{
+    value
+}
+
+fn moves_where_its_store_does<S: Store + Send>(card: Card<S>) -> Card<S>
+    ensures { result ≡ card }
+{
+    moves(card)
+}
+
+#[test]
+fn a_card_moves_between_threads(rt: HostRuntime) -> Result<(), Fail> {
+    let Ok(card) = Card::new(rt.alloc(), plain_store(rt.alloc())?) else {
+        return Err(Fail::from("no memory"));
+    };
+    let mut card = moves_where_its_store_does(card);
+    assert!(rt; card.attach(1, Interface::Contact));
     Ok(())
 }

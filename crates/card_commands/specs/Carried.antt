@@ -18,8 +18,8 @@ use Rattle.card_commands.specs.declared.broken.Broken.{Broken}
 use Rattle.card_commands.specs.declared.broken.Broken.TheVariants.{Spending, Filling, Putting}
 
 -- the word, by the last lines of the table of answers
-abbrev pub word_of : Memory → Ask → ℕ
-word_of m a =
+abbrev pub last_lines_word : Memory → Ask → ℕ
+last_lines_word m a =
     -- no try is left
     if is_blocked m a then 0x6983
     -- another value, and so many tries are left
@@ -51,13 +51,13 @@ pub record LostSpending (a : Ask) (told : ℕ) (old new : StoreState) : Type 0 w
 pub record LostFilling (a : Ask) (told : ℕ) (old new : StoreState) : Type 0 where
   pub leaves : LostBetween Spent Done a old new
   pub moment : IfSome old.due (λ due. is_due 2 due ≡ false)
-  pub cause : IfSome old.mem (λ m. word_of m a ≡ 0x9000)
+  pub cause : IfSome old.mem (λ m. last_lines_word m a ≡ 0x9000)
   pub tries : IfSome old.mem (λ m. told ≡ tries_left m a)
 
 -- power was lost while a value that has room was put in place
 pub record LostPutting (place : ℕ) (v : List ℕ) (told : Bool) (old new : StoreState) : Type 0 where
   pub leaves : LostBetween Nothing Done (Put place v) old new
-  pub cause : IfSome old.mem (λ m. word_of m (Put place v) ≡ 0x9000)
+  pub cause : IfSome old.mem (λ m. last_lines_word m (Put place v) ≡ 0x9000)
   pub same : IfSome old.mem (λ m. told ≡ bytes_eq (stored m place) v)
 
 -- by the call that lost power
@@ -70,10 +70,10 @@ Breaks _ _ old new = ⊥
 -- what a command that asks this answers and leaves
 pub record Carries (put_cost : ℕ → ℕ) (a : Ask) (result : Result ℕ Broken) (old new : StoreState) : Type 0 where
   -- the word is that of the table of answers
-  pub word : IfOk result (λ sw. IfSome old.mem (λ m. sw ≡ word_of m a))
+  pub word : IfOk result (λ sw. IfSome old.mem (λ m. sw ≡ last_lines_word m a))
   -- the memory is as far as the word tells, after so many writes
   pub carried : IfOk result (λ sw. new ≡ changed (cost_of put_cost a sw) (memory_after a (took_by sw)) old)
   -- where power was lost, the answer is the call that lost it
   pub broken : IfErr result (λ broken. Breaks a broken old new)
   -- power is lost exactly where a loss is due within the command's writes
-  pub due : IfSome old.mem (λ m. LostWhereDue (cost_of put_cost a (word_of m a)) old.due result)
+  pub due : IfSome old.mem (λ m. LostWhereDue (cost_of put_cost a (last_lines_word m a)) old.due result)

@@ -3,12 +3,12 @@ use Rattle.std.specs.Prelude.{◌≡◌, ℕ, true, List}
 use Rattle.piv_model.specs.declared.kinds.RefId.{RefId}
 use Rattle.piv_rules.specs.Asks.{Ask, Purpose, Put, Compare}
 use Rattle.piv_rules.specs.Answers.{Situation, holds, rule_of, answer_to}
-use Rattle.card_commands.specs.Carried.{word_of}
+use Rattle.card_commands.specs.Carried.{last_lines_word}
 
 -- PIV is selected, and the access rule holds
 abbrev pub AnswersByTheTable : Ask → Type 0
 AnswersByTheTable a = (s : Situation) → s.piv ≡ true → holds s (rule_of s.interface a) ≡ true
-    → (answer_to s a).word ≡ word_of s.memory a
+    → (answer_to s a).word ≡ last_lines_word s.memory a
 
 abbrev pub ComparesByTheTable : Type 0
 ComparesByTheTable = (r : RefId) (p : List ℕ) (purpose : Purpose) → AnswersByTheTable (Compare r p purpose)

@@ -447,3 +447,18 @@ fn a_lost_call_makes_no_write_behind_its_loss(rt: HostRuntime) -> Result<(), Fai
     expect_call(&rt, &mut store, &spend, Ok(()), 2);
     Ok(())
 }
+
+fn moves<T: Send>(value: T) -> T
+    ensures { result ≡ value }
+{
+    value
+}
+
+#[test]
+fn a_store_and_a_loss_move_between_threads(rt: HostRuntime) -> Result<(), Fail> {
+    let alloc = rt.alloc();
+    let losses = [moves(lost_at(1, Leaves::New))].to_vec(alloc)?;
+    let store = MemoryStore::new(alloc, &plain_start(alloc)?, losses)?;
+    assert_eq!(rt; moves(store).lost(), 0);
+    Ok(())
+}

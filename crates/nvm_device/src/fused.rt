@@ -161,10 +161,7 @@ fn tear<N: Nvm>(inner: &mut N, place: usize, n: usize, pattern: &[u8]) -> Result
     ensures lost { OnErr result (LeavesAny place n (N.state inner.old) (N.state inner.new)) }
 {
     for i in 0..n {
-        match inner.write(place + i, &[pattern[i % pattern.len()]]) {
-            Ok(()) => {}
-            Err(Lost) => return Err(Lost),
-        }
+        inner.write(place + i, &[pattern[i % pattern.len()]])?;
     }
     Ok(())
 }

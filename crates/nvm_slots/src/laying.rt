@@ -16,8 +16,5 @@ pub fn lay<N: Nvm>(nvm: &mut N, place: usize, bytes: &[u8]) -> Result<(), Lost>
     ensures fell { OnErr result (LaysNoMore place (length bytes.now) (N.state nvm.old) (N.state nvm.new)) }
     ensures due { LostWhereDue 1 (N.state nvm.old).due result }
 {
-    match nvm.write(place, bytes) {
-        Ok(()) => Ok(()),
-        Err(Lost) => Err(Lost),
-    }
+    nvm.write(place, bytes)
 }

@@ -107,3 +107,13 @@ fn a_copy_has_the_same_entries(rt: HostRuntime) {
     drop(history);
     expect_filled(&rt, rt.alloc(), &copy);
 }
+
+fn moves<T: Send>(value: T) -> T {
+    value
+}
+
+#[test]
+fn a_history_moves_between_threads(rt: HostRuntime) {
+    let history = History::with_room(rt.alloc(), 0, 0);
+    assert!(rt; moves(history).is_ok_and(|h| h.len() == 0));
+}

@@ -60,3 +60,13 @@ fn objects_stand_in_the_order_in_which_they_were_added(rt: HostRuntime) -> Resul
     }
     Ok(())
 }
+
+fn moves<T: Send>(value: T) -> T {
+    value
+}
+
+#[test]
+fn a_start_moves_between_threads(rt: HostRuntime) -> Result<(), Fail> {
+    expect_plain(&rt, &moves(plain_start(rt.alloc())?));
+    Ok(())
+}

@@ -36,9 +36,10 @@ pub enum PutFault {
 /// objects (SP 800-73-4 part 1).
 ///
 /// What is said of the memory holds where the store tells it. A call that answers Lost left the memory as it
-/// was or as it would have become, the power is off, and the losses rose. After every other answer the
-/// losses, and all that its clauses don't name, are as before. A call of so many writes is lost exactly where
-/// the first loss that is due comes within them, if the store tells when losses are due.
+/// was or as it would have become, the power is off, and the losses rose or stand at the last number of 64
+/// bits. After every other answer the losses, and all that its clauses don't name, are as before. A call of so
+/// many writes is lost exactly where the first loss that is due comes within them, if the store tells when
+/// losses are due.
 pub trait Store {
     /// Stands for a try that was spent. Over any store it can be neither made, copied nor dropped: `spend`
     /// gives it, and `matches` or `give_up` takes it. A store keeps its own type as closed.
@@ -140,7 +141,7 @@ pub trait Store {
         ensures value { IfSome (state self.now).mem (λ m. result ≡ (key_at m key).algorithm) }
         ensures one { IsTrue (is_algorithm result) };
 
-    /// A block under a key.
+    /// The block enciphered under a key (FIPS 197).
     fn encipher(&self, key: KeyId, block: &[u8; 16]) -> [u8; 16]
         requires on { IsTrue (state self.now).on }
         ensures { IfSome (state self.now).mem (λ m. result ≡ enciphered (key_at m key).key block.now) };

@@ -54,10 +54,7 @@ fn read_first(bytes: &[u8]) -> Result<(Authenticator<'_>, &[u8]), Malformed>
         ¬ BeginsWithOne bytes.now c rest) }
 {
     let (inside, rest) = first(bytes, 0x67)?;
-    match read_authenticator(inside) {
-        Ok(authenticator) => Ok((authenticator, rest)),
-        Err(_) => Err(Malformed),
-    }
+    Ok((read_authenticator(inside)?, rest))
 }
 
 /// The authenticators of a login: 1 to 8 elements 67, each with one element 81, the PIN of 1 to 255

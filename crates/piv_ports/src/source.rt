@@ -16,8 +16,11 @@ pub struct Failed;
 /// Why not all was read.
 #[derive(Clone, Copy, Debug, PartialEq, Eq)]
 pub enum ReadStop {
+    /// A read failed.
     Failed,
+    /// There are more bytes than were allowed.
     TooLarge,
+    /// Memory for the bytes was wanting.
     NoMemory,
 }
 
@@ -29,6 +32,7 @@ impl From<AllocError> for ReadStop {
     }
 }
 
+/// Gives bytes, piece by piece; a failed read gives none and leaves none out.
 pub trait Source {
     /// The bytes that are left, where the source tells them.
     ghost left: { Self → Option (List ℕ) };
@@ -36,10 +40,11 @@ pub trait Source {
     /// How many bytes it has given so far, a count that stays at the last one.
     ghost given: { Self → ℕ };
 
-    /// How often a read has failed.
+    /// How often a read has failed, a count that stays at the last one.
     ghost faults: { Self → ℕ };
 
-    /// Gives the next bytes, no more than fit. None into an `out` with room is the end.
+    /// Puts the next bytes at the front of `out`, and gives their number. None into an `out` with room is
+    /// the end.
     fn read(&mut self, out: &mut [u8]) -> Result<usize, Failed>
         ensures fits { IfOk result (λ n. n ≤ length out.old) }
         ensures first { IfOk result (λ n. AreFirst n out.new (left self.old)) }

@@ -9,7 +9,7 @@ use Rattle.piv_model.specs.Cipher.{add_bytes, sub_bytes, row_times, each_column,
 use Rattle.piv_model.specs.Memory.{fits}
 use Rattle.piv_model.specs.Objects.{place_of, object_table}
 use Rattle.piv_rules.specs.Asks.{ask}
-use Rattle.piv_rules.specs.Memories.{tries, count_up, mem}
+use Rattle.piv_rules.specs.Memories.{tries, mem}
 use Rattle.piv_rules.specs.RandomBlocks.{block_from}
 use Rattle.piv_rules.specs.Answers.{answer, answer_in, answer_to}
 use Rattle.piv_model.specs.PlainCard.{plain_memory, plain_admin_key}
@@ -21,11 +21,11 @@ unfolding product remainder mul power_x search_inverse inverse affine sub_byte a
 response-block = refl
 
 pub ChallengeIsTheBlock-row : ChallengeIsTheBlock
-unfolding answer answer_in answer_to mem count_up tries ask elements_of tag_at length_at value_at parts_at header_of plain_memory block_from quarter_round column_round diagonal_round double_rounds block_word u32_at
+unfolding answer answer_in answer_to mem tries ask elements_of tag_at length_at value_at parts_at header_of plain_memory block_from quarter_round column_round diagonal_round double_rounds block_word u32_at
 ChallengeIsTheBlock-row = refl
 
 pub ChallengeIsAnsweredOnce-row : ChallengeIsAnsweredOnce
-unfolding answer answer_in answer_to mem count_up tries fits ask elements_of tag_at length_at value_at parts_at header_of plain_memory place_of object_table
+unfolding answer answer_in answer_to mem tries fits ask elements_of tag_at length_at value_at parts_at header_of plain_memory place_of object_table
 ChallengeIsAnsweredOnce-row = (rw response-block refl, refl, rw response-block refl, refl)
 
 pub ruleset challenge_rows = (ChallengeIsTheBlock-row, ChallengeIsAnsweredOnce-row)

@@ -1,6 +1,8 @@
 -- What losses of power leave, and the memory at the start.
-use Rattle.std.proofs.Common.{◌≡◌, ◌<◌, ℕ, suc, ◌+◌, true, List, [], ◌∷◌, Option, Some, None, refl, ap, sym, ◌∙◌, arith, length}
-use Rattle.std.specs.Prelude.{map, slice_index_or, option_map, unwrap_or}
+use Rattle.std.proofs.Common.{◌≡◌, ℕ, true, [], Option, Some, None, refl, ap, sym, ◌∙◌, length}
+use Rattle.std.proofs.lemmas.List.FromFn.{fill_by_all}
+use Rattle.std.specs.List.{range_with_len}
+use Rattle.std.specs.Prelude.{map, option_map, unwrap_or}
 use Rattle.piv_model.specs.declared.kinds.RefId.{RefId}
 use Rattle.piv_model.specs.declared.kinds.RefId.TheVariants.{Pin, Puk, GlobalPin}
 use Rattle.piv_model.specs.declared.kinds.Took.TheVariants.{Nothing}
@@ -8,7 +10,7 @@ use Rattle.piv_model.specs.Commands.{CardCommand}
 use Rattle.piv_model.specs.Entries.{Cut, Up}
 use Rattle.piv_model.specs.Memory.{Reference, no_reference, reference, stored}
 use Rattle.piv_model.specs.Base.{Base}
-use Rattle.piv_rules.specs.Memories.{running, count_up, reference_now, mem}
+use Rattle.piv_rules.specs.Memories.{running, reference_now, mem}
 use Rattle.piv_rules.specs.Losses.{before_cut, is_possible}
 use Rattle.piv_rules.specs.HistoryLaws.{CutsLeaveTheMemory, UpsTellTheMemory, NothingMayBeTaken, StartsWithTheBase}
 use Rattle.piv_rules.proofs.Steps.{tries-nil}
@@ -27,24 +29,11 @@ NothingMayBeTaken-law B H = (go (running H), tt)
     go None = refl
     go (Some r) = refl
 
--- a list by its places
-all_places : {A : Type 0} (f : ℕ → A) (d : A) (k : ℕ) (xs : List A)
-    → ((i : ℕ) → i < length xs → f (k + i) ≡ slice_index_or xs i d) → map f (count_up k (length xs)) ≡ xs
-unfolding count_up
-all_places f d k [] h = refl
-all_places f d k (x ∷ xs) h =
-    let here : f k ≡ x = ap f (omega arith) ∙ h 0 (omega arith) in
-    let there : map f (count_up (suc k) (length xs)) ≡ xs =
-    all_places f d (suc k) xs (λ i l. ap f (omega arith) ∙ h (suc i) (omega (arith, l))) in
-    ap (λ y. y ∷ map f (count_up (suc k) (length xs))) here ∙ ap (λ ys. x ∷ ys) there
-
 start_reference : (B : Base) (r : RefId) → reference_now B [] r ≡ reference B.memory r
 start_reference B r = ap (λ n. record (reference B.memory r) { tries = n }) (tries-nil B r)
 
-start_objects : (B : Base) → length B.memory.objects ≡ 33 → map (stored B.memory) (count_up 0 33) ≡ B.memory.objects
-start_objects B h =
-    ap (λ n. map (stored B.memory) (count_up 0 n)) (sym h)
-    ∙ all_places (stored B.memory) [] 0 B.memory.objects (λ i l. ap (λ n. slice_index_or B.memory.objects n []) (omega arith))
+start_objects : (B : Base) → length B.memory.objects ≡ 33 → map (stored B.memory) (range_with_len 0 33) ≡ B.memory.objects
+start_objects B h = sym (fill_by_all (stored B.memory) B.memory.objects 33 [] h (λ k l. refl))
 
 -- the Global PIN's reference, if there is one
 start_global : (B : Base) → option_map (λ g. reference_now B [] GlobalPin) B.memory.global ≡ B.memory.global

@@ -1,6 +1,8 @@
 -- How the memory changes by one entry.
 use Rattle.std.proofs.Common.{◌≡◌, ℕ, suc, zero, ◌+◌, ◌-◌, [], ◌∷◌, Option, Some, None, true, refl, ap, unwrap_or, arith, ◌∙◌, eq-eqb, ne_eqb, ◌<◌, ◌≤◌}
-use Rattle.std.specs.Prelude.{if◌then◌else◌, IsTrue, ◌==◌, map, slice_set, option_map, option_and_then, is_some, slice_index_or}
+use Rattle.std.proofs.lemmas.List.FromFn.{get_or-map-range_with_len}
+use Rattle.std.specs.List.{range_with_len}
+use Rattle.std.specs.Prelude.{if◌then◌else◌, IsTrue, ◌==◌, map, slice_set, option_map, option_and_then, is_some}
 use Rattle.piv_model.specs.declared.kinds.RefId.{RefId}
 use Rattle.piv_model.specs.declared.kinds.RefId.TheVariants.{Pin, Puk, GlobalPin}
 use Rattle.piv_model.specs.declared.kinds.Took.{Took}
@@ -10,26 +12,24 @@ use Rattle.piv_model.specs.Entries.{CardEntry, Past}
 use Rattle.piv_model.specs.Base.{Profile, profile, profile_of, Base}
 use Rattle.piv_model.specs.Memory.{Memory, Reference, stored, has, no_reference, reference}
 use Rattle.piv_rules.specs.Asks.{Ask, Refused, Select, Get, Put, Logout, Query, Compare, Internal, AskChallenge, External, AskWitness, Mutual, Verify, Change, Unblock, ask}
-use Rattle.piv_rules.specs.Memories.{did, count_up, mem, object, reference_now, filled_by, did_so, spent_by, secret_by, object_by}
+use Rattle.piv_rules.specs.Memories.{did, mem, object, reference_now, filled_by, did_so, spent_by, secret_by, object_by}
 use Rattle.piv_model.specs.Changes.{change_reference, full, renewed, one_less}
 use Rattle.piv_rules.specs.Effects.{memory_by, memory_after}
 use Rattle.piv_rules.proofs.Steps.{tries-step}
 
 -- a value set below the places changes none of them
 map-below : {A : Type 0} (f : ℕ → A) (v : A) (k n q : ℕ) → q < k
-    → map (λ id. unwrap_or (if id == q then Some v else None) (f id)) (count_up k n) ≡ map f (count_up k n)
-unfolding count_up
+    → map (λ id. unwrap_or (if id == q then Some v else None) (f id)) (range_with_len k n) ≡ map f (range_with_len k n)
 map-below f v k zero q h = refl
-map-below f v k (suc n) q h = rw (ne_eqb k q (omega arith)) (ap (λ xs. f k ∷ xs) (map-below f v (suc k) n q (omega arith)))
+map-below f v k (suc n) q h = rw (ne_eqb k q (omega arith)) (ap (λ xs. f k ∷ xs) (map-below f v (k + 1) n q (omega arith)))
 
 -- a list of places with one value set anew
 map-set_at : {A : Type 0} (f : ℕ → A) (v : A) (k n p q : ℕ) → q ≡ k + p
-    → map (λ id. unwrap_or (if id == q then Some v else None) (f id)) (count_up k n) ≡ slice_set (map f (count_up k n)) p v
-unfolding count_up
+    → map (λ id. unwrap_or (if id == q then Some v else None) (f id)) (range_with_len k n) ≡ slice_set (map f (range_with_len k n)) p v
 map-set_at f v k zero p q e = refl
-map-set_at f v k (suc n) zero q e = rw (eq-eqb k q (omega arith)) (ap (λ xs. v ∷ xs) (map-below f v (suc k) n q (omega arith)))
+map-set_at f v k (suc n) zero q e = rw (eq-eqb k q (omega arith)) (ap (λ xs. v ∷ xs) (map-below f v (k + 1) n q (omega arith)))
 map-set_at f v k (suc n) (suc p) q e =
-    rw (ne_eqb k q (omega arith)) (ap (λ xs. f k ∷ xs) (map-set_at f v (suc k) n p q (omega arith)))
+    rw (ne_eqb k q (omega arith)) (ap (λ xs. f k ∷ xs) (map-set_at f v (k + 1) n p q (omega arith)))
 
 -- the references, from what an entry did
 abbrev reference_by : Profile → RefId → Option (CardCommand × Took) → Reference → Reference
@@ -52,7 +52,7 @@ mem_by B H d = record {
   admin = B.memory.admin;
   card_auth = B.memory.card_auth;
   budget = B.memory.budget;
-  objects = map (λ id. unwrap_or (option_and_then (λ x. object_by id (ask (profile B) x.0) x.1) d) (object B H id)) (count_up 0 33);
+  objects = map (λ id. unwrap_or (option_and_then (λ x. object_by id (ask (profile B) x.0) x.1) d) (object B H id)) (range_with_len 0 33);
 }
 
 mem_by-did : (B : Base) (H : Past) (e : CardEntry) → mem B (e ∷ H) ≡ mem_by B H (did H e)
@@ -126,20 +126,10 @@ profile_of-mem B H = go B.memory.global
     go None = refl
     go (Some x) = refl
 
-lt_zero : (i : ℕ) → i < 0 → ⊥
-lt_zero i h = omega (arith, h)
-
--- a list of places, at one of them
-at_place : {A : Type 0} (f : ℕ → A) (d : A) (k n i : ℕ) → i < n → slice_index_or (map f (count_up k n)) i d ≡ f (k + i)
-unfolding count_up
-at_place f d k zero i h = absurd (lt_zero i h)
-at_place f d k (suc n) zero h = ap f (omega arith)
-at_place f d k (suc n) (suc i) h = at_place f d (suc k) n i (omega arith) ∙ ap f (omega arith)
-
 -- the objects of the memory are those of the history
 pub stored-mem : (B : Base) (H : Past) (id : ℕ) → id ≤ 32 → stored (mem B H) id ≡ object B H id
 unfolding mem
-stored-mem B H id h = at_place (object B H) [] 0 33 id (omega arith) ∙ ap (object B H) (omega arith)
+stored-mem B H id h = get_or-map-range_with_len (object B H) 0 33 id id [] (omega arith) (omega arith)
 
 -- a reference that the card has, in the memory after a history
 pub reference-mem : (B : Base) (H : Past) (ref : RefId) → IsTrue (has B.memory ref) → reference (mem B H) ref ≡ reference_now B H ref

@@ -11,12 +11,12 @@ use Rattle.piv_rules.specs.Answers.{answer}
 use Rattle.piv_rules.specs.Acts.{CardAct, Exchange, CardAnswer, Replied, Records, entries}
 
 -- the command in an act's bytes
-abbrev pub command_in : Result CardApdu ℕ → List CardCommand
-command_in (Err w) = []
-command_in (Ok a) = a.command ∷ []
+abbrev pub command_read : Result CardApdu ℕ → List CardCommand
+command_read (Err w) = []
+command_read (Ok a) = a.command ∷ []
 
 abbrev pub commands_of : CardAct → List CardCommand
-commands_of (Exchange c known bytes) = command_in (framing bytes)
+commands_of (Exchange c known bytes) = command_read (framing bytes)
 commands_of _ = []
 
 -- the commands of the Parts at the end of what c exchanged after its last break, the first of them first: a Part goes

@@ -1,5 +1,5 @@
 -- What the plain programs' types say: a lent ask, lent entries, and the tests of the table's lines (this project's own).
-use Rattle.std.specs.Prelude.{◌≡◌, ◌≤◌, Bool, true, false, List, length, map, sum_by}
+use Rattle.std.specs.Prelude.{◌≡◌, ◌≤◌, Bool, true, false, if◌then◌else◌, List, length, map, sum_by, Some, None}
 use Rattle.piv_model.specs.declared.kinds.RefId.TheVariants.{GlobalPin}
 use Rattle.piv_model.specs.declared.history.Entry.{Entry}
 use Rattle.piv_model.specs.Entries.{Past, entry_of}
@@ -8,7 +8,7 @@ use Rattle.piv_rules.specs.declared.asked.Asked.{Asked}
 use Rattle.piv_rules.specs.declared.asked.Asked.TheVariants as asked
 use Rattle.piv_rules.specs.declared.asked.Aim.{Aim}
 use Rattle.piv_rules.specs.declared.asked.Aim.TheVariants as aim
-use Rattle.piv_rules.specs.declared.table.Lines.{Lines}
+use Rattle.piv_rules.specs.declared.table.Tests.{Tests}
 use Rattle.piv_rules.specs.declared.seen.Counter.{Counter}
 use Rattle.piv_rules.specs.declared.seen.Seen.{Seen}
 use Rattle.piv_rules.specs.declared.lookback.Status.{Status}
@@ -47,19 +47,18 @@ abbrev pub past_of : List Entry → Past
 past_of entries = map entry_of entries
 
 -- these are the tests of the table's lines for this ask in this situation
-pub record AreLines (lines : Lines) (s : Situation) (a : Ask) : Type 0 where
-  pub piv : lines.piv ≡ s.piv
-  pub refused : lines.refused ≡ is_refused a
-  pub refusal : lines.refusal ≡ refusal_word a
-  pub permitted : lines.permitted ≡ holds s (rule_of s.interface a)
-  pub lacks_pending : lines.lacks_pending ≡ lacks_pending s.pending a
-  pub wrong : lines.wrong ≡ is_wrong s.memory.admin s.pending a
-  pub blocked : lines.blocked ≡ is_blocked s.memory a
-  pub differs : lines.differs ≡ differs s.memory a
-  pub unknown_login : lines.unknown_login ≡ asks_unknown_login s a
-  pub absent : lines.absent ≡ is_absent s.memory a
-  pub no_room : lines.no_room ≡ has_no_room s.memory a
-  pub tries : lines.tries ≡ tries_left s.memory a
+pub record AreTests (tests : Tests) (s : Situation) (a : Ask) : Type 0 where
+  pub piv : tests.piv ≡ s.piv
+  pub refusal : tests.refusal ≡ (if is_refused a then Some (refusal_word a) else None)
+  pub permitted : tests.permitted ≡ holds s (rule_of s.interface a)
+  pub lacks_pending : tests.lacks_pending ≡ lacks_pending s.pending a
+  pub wrong : tests.wrong ≡ is_wrong s.memory.admin s.pending a
+  pub blocked : tests.blocked ≡ is_blocked s.memory a
+  pub differs : tests.differs ≡ differs s.memory a
+  pub unknown_login : tests.unknown_login ≡ asks_unknown_login s a
+  pub absent : tests.absent ≡ is_absent s.memory a
+  pub no_room : tests.no_room ≡ has_no_room s.memory a
+  pub tries : tests.tries ≡ tries_left s.memory a
 
 -- a login as the plain programs name it
 abbrev pub login_of : Status → Login

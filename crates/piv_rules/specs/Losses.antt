@@ -7,8 +7,8 @@ use Rattle.piv_model.specs.Commands.{CardCommand}
 use Rattle.piv_model.specs.Entries.{Past, Cut, Up}
 use Rattle.piv_model.specs.Memory.{Memory, has}
 use Rattle.piv_model.specs.Base.{Base, profile}
-use Rattle.piv_rules.specs.Asks.{Ask, Put, Compare, Unblock, ask}
-use Rattle.piv_rules.specs.Memories.{running, secret, mem}
+use Rattle.piv_rules.specs.Asks.{Ask, Put, Compare, ask}
+use Rattle.piv_rules.specs.Memories.{running, is_unblock, secret, mem}
 
 -- the entries before the last loss of power
 abbrev pub before_cut : Past → Past
@@ -36,7 +36,7 @@ mem_if B H t = mem B (Up t ∷ H)
 
 -- the command in flight is an unblocking
 abbrev pub is_unblocking : Ask → Bool
-is_unblocking (Compare r p (Unblock n)) = true
+is_unblocking (Compare r p purpose) = is_unblock purpose
 is_unblocking _ = false
 
 abbrev pub unblocks : Base → Option (ℕ × CardCommand) → Bool

@@ -1,6 +1,7 @@
 -- The memory after a history: tries, secrets and objects (SP 800-73-4 part 1, retry counters; part 2, VERIFY, CHANGE
 -- REFERENCE DATA, RESET RETRY COUNTER and PUT DATA; what a loss of power leaves is this project's own).
-use Rattle.std.specs.Prelude.{ℕ, zero, suc, ◌-◌, Bool, true, false, ◌&&◌, ◌||◌, ◌==◌, List, [], ◌∷◌, map, Option, Some, None, option_map, option_and_then, if◌then◌else◌}
+use Rattle.std.specs.Prelude.{ℕ, ◌-◌, Bool, true, false, ◌&&◌, ◌||◌, ◌==◌, List, map, Option, Some, None, option_map, option_and_then, if◌then◌else◌}
+use Rattle.std.specs.List.{range_with_len}
 use Rattle.piv_model.specs.declared.kinds.RefId.{RefId}
 use Rattle.piv_model.specs.declared.kinds.RefId.TheVariants.{Pin, Puk, GlobalPin}
 use Rattle.piv_model.specs.declared.kinds.Took.{Took}
@@ -106,11 +107,6 @@ reference_now B H r = record {
   secret = secret B H r;
 }
 
--- k and the n - 1 numbers after it
-unfoldable pub count_up : ℕ → ℕ → List ℕ
-count_up k zero = []
-count_up k (suc n) = k ∷ count_up (suc k) n
-
 -- the memory after a history; an object stands at each of the 33 places
 unfoldable pub mem : Base → Past → Memory
 mem B H = record {
@@ -120,5 +116,5 @@ mem B H = record {
   admin = B.memory.admin;
   card_auth = B.memory.card_auth;
   budget = B.memory.budget;
-  objects = map (object B H) (count_up 0 33);
+  objects = map (object B H) (range_with_len 0 33);
 }

@@ -35,15 +35,15 @@ made put_cost B L [] = 0
 made put_cost B L (e ∷ G) = made_with put_cost B L e G (made put_cost B L G)
 
 -- a number of the plan falls among the next writes
-abbrev pub is_due : List ℕ → ℕ → ℕ → Bool
-is_due L n writes = list_any (λ x. nat_lt n x && nat_le x (n + writes)) L
+abbrev pub meets : List ℕ → ℕ → ℕ → Bool
+meets L n writes = list_any (λ x. nat_lt n x && nat_le x (n + writes)) L
 
 -- a Call meets no number of the plan, and a command that lost power meets one
 abbrev pub IsPlanned : (ℕ → ℕ) → Base → List ℕ → Past → CardEntry → Type 0
 IsPlanned put_cost B L G (Call c k word block) =
-    IsTrue (not (is_due L (made put_cost B L G) (cost put_cost B G c k)))
+    IsTrue (not (meets L (made put_cost B L G) (cost put_cost B G c k)))
 IsPlanned put_cost B L G (Cut (Some r)) =
-    IsTrue (is_due L (made put_cost B L G) (cost put_cost B G r.0 r.1))
+    IsTrue (meets L (made put_cost B L G) (cost put_cost B G r.0 r.1))
 IsPlanned put_cost B L G _ = Unit {0}
 
 abbrev pub ArePlanned : (ℕ → ℕ) → Base → List ℕ → Past → Type 0

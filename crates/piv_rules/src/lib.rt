@@ -19,8 +19,8 @@ pub use laws::{
     spends_are_limited, what_is_acknowledged_lasts, words_have_their_causes,
 };
 pub use lookback::{Asks, Status, Waiting, is_break, is_in_force, pending_on, side_of};
-pub use seen::{Counter, Seen, answer_word, lines_of};
-pub use table::{Lines, word_of};
+pub use seen::{Counter, Seen, answer_word, tests_of};
+pub use table::{Tests, word_of};
 
 #[cfg(test)]
 mod tests;

@@ -71,12 +71,10 @@ pub fn is_break(entry: &Entry<'_>, before: &[Entry<'_>], c: u32) -> bool
 fn compared(sw: u16) -> Option<bool>
     ensures { result ≡ compared sw }
 {
-    if sw == 0x9000 {
-        Some(true)
-    } else if 0x63C0 <= sw && sw <= 0x63CF {
-        Some(false)
-    } else {
-        None
+    match sw {
+        0x9000 => Some(true),
+        0x63C0..=0x63CF => Some(false),
+        _ => None,
     }
 }
 

@@ -2,11 +2,11 @@
 ghost use Rattle.std.specs.Prelude.{◌≡◌, ◌≤◌, length};
 ghost use Rattle.piv_model.specs.Memory.{fits, reference, stored};
 ghost use Rattle.piv_rules.specs.Answers.{Situation, holds, rule_of, status, is_wrong, answer_to};
-ghost use Rattle.piv_rules.specs.Lent.{ask_of, counter_of, AreFew, AreLines, IsSeen};
+ghost use Rattle.piv_rules.specs.Lent.{ask_of, counter_of, AreFew, AreTests, IsSeen};
 
 use crate::asked::Asked;
 use crate::lookback::Waiting;
-use crate::table::{Lines, word_of};
+use crate::table::{Tests, word_of};
 use piv_model::{Interface, RefId, Rule};
 
 /// A reference's tries and its secret.
@@ -85,24 +85,23 @@ fn has_room(seen: &Seen<'_>, value: &[u8]) -> bool
     if value.len() > 16384 {
         return false;
     }
-    let blocks = (value.len() as u64 + 63) / 64;
+    let blocks = (value.len() as u64).div_ceil(64);
     seen.used <= seen.budget && blocks <= seen.budget - seen.used
 }
 
 /// The tests of the table's lines for an ask whose access rule is `rule`. Whether the ask is a
 /// wrong response to what is pending is told, since the cipher isn't here.
-pub fn lines_of(seen: &Seen<'_>, asked: Asked<'_>, rule: Rule, wrong: bool) -> Lines
+pub fn tests_of(seen: &Seen<'_>, asked: Asked<'_>, rule: Rule, wrong: bool) -> Tests
     requires { AreFew seen.now }
     ensures few { result.tries ≤ 15 }
-    ensures lines { (s : Situation) → IsSeen seen.now s
+    ensures tests { (s : Situation) → IsSeen seen.now s
         → rule ≡ rule_of s.interface (ask_of asked.entry)
         → wrong ≡ is_wrong s.memory.admin s.pending (ask_of asked.entry)
-        → AreLines result s (ask_of asked.entry) }
+        → AreTests result s (ask_of asked.entry) }
 {
-    let lines = Lines {
+    let tests = Tests {
         piv: seen.piv,
-        refused: false,
-        refusal: 0,
+        refusal: None,
         permitted: permits(seen, rule),
         lacks_pending: false,
         wrong,
@@ -114,46 +113,45 @@ pub fn lines_of(seen: &Seen<'_>, asked: Asked<'_>, rule: Rule, wrong: bool) -> L
         tries: 0,
     };
     match asked {
-        Asked::Refused(word) => Lines {
-            refused: true,
-            refusal: word,
-            ..lines
+        Asked::Refused(word) => Tests {
+            refusal: Some(word),
+            ..tests
         },
         Asked::Compare(r, candidate, _) => {
             let counter = counter_at(seen, r);
-            Lines {
+            Tests {
                 blocked: counter.tries == 0,
                 differs: candidate != counter.secret,
                 tries: counter.tries,
-                ..lines
+                ..tests
             }
         }
-        Asked::Query(r) => Lines {
+        Asked::Query(r) => Tests {
             unknown_login: !is_logged_in(seen, r),
             tries: counter_at(seen, r).tries,
-            ..lines
+            ..tests
         },
-        Asked::External(_) => Lines {
+        Asked::External(_) => Tests {
             lacks_pending: !matches!(seen.pending, Waiting::Challenge(_)),
-            ..lines
+            ..tests
         },
-        Asked::Mutual(_, _) => Lines {
+        Asked::Mutual(_, _) => Tests {
             lacks_pending: !matches!(seen.pending, Waiting::Witness(_)),
-            ..lines
+            ..tests
         },
-        Asked::Get(id) => Lines {
+        Asked::Get(id) => Tests {
             absent: stored_length(seen, id) == 0,
-            ..lines
+            ..tests
         },
-        Asked::Put(_, value) => Lines {
+        Asked::Put(_, value) => Tests {
             no_room: !has_room(seen, value),
-            ..lines
+            ..tests
         },
         Asked::Select(_)
         | Asked::Logout(_)
         | Asked::Internal(_)
         | Asked::AskChallenge
-        | Asked::AskWitness => lines,
+        | Asked::AskWitness => tests,
     }
 }
 
@@ -176,5 +174,5 @@ pub fn answer_word(seen: &Seen<'_>, asked: Asked<'_>, rule: Rule, wrong: bool) -
         → wrong ≡ is_wrong s.memory.admin s.pending (ask_of asked.entry)
         → result ≡ (answer_to s (ask_of asked.entry)).word }
 {
-    word_of(&lines_of(seen, asked, rule, wrong))
+    word_of(&tests_of(seen, asked, rule, wrong))
 }

@@ -2,16 +2,15 @@
 ghost use Rattle.std.specs.Prelude.{◌≡◌, ◌≤◌};
 ghost use Rattle.piv_rules.specs.Asks.{Ask};
 ghost use Rattle.piv_rules.specs.Answers.{Situation, answer_to};
-ghost use Rattle.piv_rules.specs.Lent.{AreLines};
+ghost use Rattle.piv_rules.specs.Lent.{AreTests};
 
 /// The tests of the table's lines for an ask in a situation, and the numbers that its words carry.
 #[derive(Clone, Copy, Debug)]
-pub struct Lines {
+pub struct Tests {
     /// The PIV application is selected.
     pub piv: bool,
-    /// The command has no good form, and `refusal` is its word.
-    pub refused: bool,
-    pub refusal: u16,
+    /// The word of a command of no good form.
+    pub refusal: Option<u16>,
     /// The access rule holds.
     pub permitted: bool,
     pub lacks_pending: bool,
@@ -27,29 +26,29 @@ pub struct Lines {
 
 /// The status word of the first line that fits. SELECT has a line of its own and isn't asked here.
 #[tactic(auto, unfolding(crate::specs::Answers::answer_to))]
-pub fn word_of(lines: &Lines) -> u16
-    requires { lines.now.tries ≤ 15 }
-    ensures { (s : Situation) (a : Ask) → AreLines lines.now s a → result ≡ (answer_to s a).word }
+pub fn word_of(tests: &Tests) -> u16
+    requires { tests.now.tries ≤ 15 }
+    ensures { (s : Situation) (a : Ask) → AreTests tests.now s a → result ≡ (answer_to s a).word }
 {
-    if !lines.piv {
+    if !tests.piv {
         0x6D00
-    } else if lines.refused {
-        lines.refusal
-    } else if !lines.permitted {
+    } else if let Some(word) = tests.refusal {
+        word
+    } else if !tests.permitted {
         0x6982
-    } else if lines.lacks_pending {
+    } else if tests.lacks_pending {
         0x6A80
-    } else if lines.wrong {
+    } else if tests.wrong {
         0x6982
-    } else if lines.blocked {
+    } else if tests.blocked {
         0x6983
-    } else if lines.differs {
-        0x63C0 + (lines.tries.saturating_sub(1) as u16)
-    } else if lines.unknown_login {
-        0x63C0 + (lines.tries as u16)
-    } else if lines.absent {
+    } else if tests.differs {
+        0x63C0 + (tests.tries.saturating_sub(1) as u16)
+    } else if tests.unknown_login {
+        0x63C0 + (tests.tries as u16)
+    } else if tests.absent {
         0x6A82
-    } else if lines.no_room {
+    } else if tests.no_room {
         0x6A84
     } else {
         0x9000

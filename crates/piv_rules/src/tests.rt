@@ -341,7 +341,7 @@ fn the_first_line_that_fits_decides(rt: HostRuntime) {
         0x6982
     );
     assert_eq!(rt;
-        word_of(&lines_of(&start, right, Rule::ContactUse, false)),
+        word_of(&tests_of(&start, right, Rule::ContactUse, false)),
         0x9000
     );
     for (situation, asked, rule, word) in table {

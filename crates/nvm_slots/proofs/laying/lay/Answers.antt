@@ -1,10 +1,9 @@
+use Rattle.std.proofs.lemmas.Result.{on_ok_weaker, on_err_weaker}
 use Rattle.nvm_slots.proofs.LayingLaws.{laying_more, fell_more}
 use Rattle.nvm_slots.proofs.laying.lay.Goals as goal
 
-pub returns-in-Ok-clause-laid : goal.returns-in-Ok-clause-laid
-returns-in-Ok-clause-laid g c area pieces end s behind within after laying =
-    laying_more area pieces end c.args.place c.args.bytes.now s (g.N.Nvm.state c.args.nvm.now) (g.N.Nvm.state c.write.new.self) behind within after laying c.in-Ok.ensures.ok
+pub returns-clause-laid : goal.returns-clause-laid
+returns-clause-laid g c = on_ok_weaker c.write.result (λ ok area pieces end s behind within after laying. laying_more area pieces end _ _ s _ _ behind within after laying ok) c.write.ensures.ok
 
-pub returns-in-Err-clause-fell : goal.returns-in-Err-clause-fell
-returns-in-Err-clause-fell g c area pieces end s behind within laying =
-    fell_more area pieces end c.args.place _ s (g.N.Nvm.state c.args.nvm.now) (g.N.Nvm.state c.write.new.self) behind within laying c.in-Err.ensures.lost
+pub returns-clause-fell : goal.returns-clause-fell
+returns-clause-fell g c = on_err_weaker c.write.result (λ lost area pieces end s behind within laying. fell_more area pieces end _ _ s _ _ behind within laying lost) c.write.ensures.lost
