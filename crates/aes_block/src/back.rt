@@ -1,4 +1,4 @@
-//! The steps of a round undone, by tables.
+// The steps of a round undone, by tables.
 ghost use Rattle.std.specs.Prelude.{◌≡◌, [], ◌∷◌};
 ghost use Rattle.piv_model.specs.Field.{sub_byte};
 ghost use Rattle.piv_model.specs.Cipher.{circulant, sub_bytes, shift_rows, mix_columns};

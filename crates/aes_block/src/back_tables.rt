@@ -1,5 +1,4 @@
-//! The tables of the way back: the inverse of the S-box, and of the matrix of MixColumns.
-
+// The tables of the way back: the inverse of the S-box, and of the matrix of MixColumns.
 /// The byte with this S-box value.
 pub const UNSUB: [u8; 256] = [
     0x52, 0x09, 0x6a, 0xd5, 0x30, 0x36, 0xa5, 0x38, 0xbf, 0x40, 0xa3, 0x9e, 0x81, 0xf3, 0xd7, 0xfb,

@@ -1,4 +1,4 @@
-//! The steps of a round, by tables.
+// The steps of a round, by tables.
 ghost use Rattle.std.specs.Prelude.{◌≡◌, [], ◌∷◌};
 ghost use Rattle.piv_model.specs.Field.{sub_byte};
 ghost use Rattle.piv_model.specs.Cipher.{circulant, add_bytes, sub_bytes, shift_rows, mix_columns};

@@ -1,4 +1,4 @@
-//! Keys.
+// Keys.
 ghost use Rattle.std.specs.Prelude.{◌≡◌, ◌↔◌, ◌⊎◌, ◌+◌, ◌*◌, ◌%◌, ◌≤◌, List, ℕ, length, take, IsSome, IfSome};
 ghost use Rattle.piv_model.specs.Cipher.{encipher, IsKey, Deciphers};
 ghost use Rattle.piv_model.specs.Cipher as spec;

@@ -1,4 +1,4 @@
-//! Laws of the cipher itself, over all keys of the three sizes and all blocks.
+// Laws of the cipher itself, over all keys of the three sizes and all blocks.
 ghost use Rattle.std.specs.Prelude.{◌≡◌, ◌↔◌, List, ℕ};
 ghost use Rattle.piv_model.specs.Cipher.{IsBlock, IsKey, encipher, Deciphers};
 

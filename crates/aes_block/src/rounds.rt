@@ -1,4 +1,4 @@
-//! All rounds under a schedule, there and back.
+// All rounds under a schedule, there and back.
 ghost use Rattle.std.specs.Prelude.{◌≡◌, ◌+◌, ◌*◌, ◌≤◌, ◌<◌, ◌∷◌, [], slice_index};
 ghost use Rattle.piv_model.specs.Cipher.{IsBlock, all_rounds};
 ghost use Rattle.aes_block.specs.Words.{schedule_of};

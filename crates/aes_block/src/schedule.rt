@@ -1,4 +1,4 @@
-//! The key schedule (FIPS 197, section 5.2).
+// The key schedule (FIPS 197, section 5.2).
 ghost use Rattle.std.specs.Prelude.{◌≡◌, ◌+◌, ◌*◌, ◌<◌, ◌≤◌, length, take};
 ghost use Rattle.piv_model.specs.Field.{power_x};
 ghost use Rattle.piv_model.specs.Cipher as spec;

@@ -1,5 +1,4 @@
-//! The tables of the way there: the S-box, and the S-box with the matrix of MixColumns.
-
+// The tables of the way there: the S-box, and the S-box with the matrix of MixColumns.
 /// The S-box of each byte.
 pub const SBOX: [u8; 256] = [
     0x63, 0x7c, 0x77, 0x7b, 0xf2, 0x6b, 0x6f, 0xc5, 0x30, 0x01, 0x67, 0x2b, 0xfe, 0xd7, 0xab, 0x76,

@@ -1,4 +1,4 @@
-//! Words of four bytes, high byte first, and blocks as four words.
+// Words of four bytes, high byte first, and blocks as four words.
 ghost use Rattle.std.specs.Prelude.{◌≡◌};
 ghost use Rattle.piv_model.specs.Cipher.{add_bytes};
 ghost use Rattle.aes_block.specs.Words.{first, second, third, fourth, all_bytes_of};

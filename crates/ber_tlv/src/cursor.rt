@@ -1,5 +1,4 @@
-//! A cursor over elements.
-
+// A cursor over elements.
 ghost use Rattle.std.specs.Prelude.{◌≡◌, ◌≤◌, ◌↔◌, [], length, None, Ok, Err, IfOk, IfSome, IfErr, OnErr};
 ghost use Rattle.ber_tlv.specs.declared.fault.TlvKind.{TlvKind};
 ghost use Rattle.ber_tlv.specs.Elements.{BeginsWith};

@@ -1,5 +1,4 @@
-//! Why no element begins at a place.
-
+// Why no element begins at a place.
 /// What is wrong first, in the order tag, length, value.
 #[derive(Clone, Copy, Debug, PartialEq, Eq)]
 pub enum TlvKind {

@@ -1,5 +1,4 @@
-//! Laws about elements.
-
+// Laws about elements.
 ghost use Rattle.ber_tlv.specs.Laws.{ReadsElements, HasOneReading, SpellsElements};
 
 /// Bytes are a list of elements in one way at most, and what is spelled is the element

@@ -1,5 +1,4 @@
-//! Reading one element from left to right.
-
+// Reading one element from left to right.
 ghost use Rattle.std.specs.Prelude.{◌≡◌, ◌≢◌, ◌↔◌, [], IfOk, OnErr};
 ghost use Rattle.ber_tlv.specs.declared.fault.TlvKind.{TlvKind};
 ghost use Rattle.ber_tlv.specs.Cursors.{element_of};

@@ -1,5 +1,4 @@
-//! The beginning of an element.
-
+// The beginning of an element.
 ghost use Rattle.std.specs.Prelude.{◌≡◌, ◌≤◌, [], ◌++◌, ℕ, List, length};
 ghost use Rattle.ber_tlv.specs.Elements.{element, IsElement, IsTagNumber, header_of, tag_bytes, length_bytes};
 

@@ -1,4 +1,3 @@
 pub mod AskLemmas
-pub mod Numbers
 pub mod StandsLemmas
 pub mod TagLemmas

@@ -1,7 +1,6 @@
 -- What a card stands for after one more record.
-use Rattle.std.proofs.Common.{◌≡◌, ◌≤◌, ℕ, Bool, true, false, List, [], ◌∷◌, Option, Some, None, refl, ap, sym, ◌∙◌, arith, length, inl, eq-eqb}
-use Rattle.std.specs.Prelude.{◌==◌, nat_lt, Ok, Err, if◌then◌else◌, not, ◌||◌}
-use Rattle.std.specs.Str.{bytes_eq}
+use Rattle.std.proofs.Common.{◌≡◌, ◌≤◌, ℕ, Bool, true, false, List, [], ◌∷◌, Option, Some, None, refl, ap, sym, ◌∙◌, arith, length, inl, eq-eqb, IsTrue}
+use Rattle.std.specs.Prelude.{◌==◌, nat_lt, Ok, Err, if◌then◌else◌, not}
 use Rattle.std.proofs.lemmas.Bool.Decides.{nat_tests}
 use Rattle.ber_tlv.specs.Elements.{elements_of}
 use Rattle.piv_model.specs.declared.kinds.Interface.{Interface}
@@ -14,9 +13,9 @@ use Rattle.piv_model.specs.Objects.{place_of}
 use Rattle.piv_model.specs.Entries.{CardEntry, Past, Opened, Call, Bad}
 use Rattle.piv_model.specs.Base.{Base, Profile, profile, profile_of}
 use Rattle.piv_rules.specs.Acts.{CardAct, CardAnswer, Connect, Connected, Exchange, Replied, Records, entries}
-use Rattle.piv_rules.specs.Asks.{Ask, Refused, Select, Get, Put, Logout, Query, Compare, Internal, AskChallenge, External, AskWitness, Mutual, Piv, Idle, ask, select_ask, get_ask, formed, found, is_at}
-use Rattle.piv_rules.specs.Answers.{answer, answer_in}
-use Rattle.piv_rules.specs.Channels.{Channel, channel, seen, after_call}
+use Rattle.piv_rules.specs.Asks.{Ask, Refused, Select, Get, Put, Logout, Query, Compare, Internal, AskChallenge, External, AskWitness, Mutual, ask, named, select_ask, get_ask, formed, found, is_at}
+use Rattle.piv_rules.specs.Answers.{answer, answer_in, situation}
+use Rattle.piv_rules.specs.Channels.{Channel, channel, after_call}
 use Rattle.piv_rules.specs.Connections.{on, is_open, closes, side, epoch}
 use Rattle.piv_rules.specs.Lookback.{some_entry}
 use Rattle.piv_rules.specs.Effects.{memory_after, memory_by}
@@ -32,17 +31,19 @@ use Rattle.card_app.specs.Serves.{served}
 use Rattle.card_app.specs.Channels.{channel_of}
 use Rattle.card_app.specs.Stands.{StandsFor, IsChannelOf, AreChannelsOf, IsCalled, IsAttached, opening}
 use Rattle.card_app.specs.declared.card.Card.{Card}
-use Rattle.card_app.specs.declared.application.Channel.{Channel as Kept}
-use Rattle.card_app.specs.declared.application.Application.TheVariants as kept
-use Rattle.card_app.proofs.Numbers.{IsUnused, unused-above, open_among-none}
+use Rattle.card_app.specs.declared.channel.Channel.{Channel as Kept}
+use Rattle.piv_model.specs.declared.kinds.Application.{Application}
+use Rattle.piv_model.specs.declared.kinds.Application.TheVariants as kept
+use Rattle.piv_rules.specs.NumberLaws.{IsUnused}
+use Rattle.piv_rules.proofs.Numbers.{unused-above, open_among-none}
 use Rattle.piv_rules.proofs.Channels.{channel-break, channel-call}
 use Rattle.piv_rules.proofs.Legality.{IsLegal-runs}
 use Rattle.card_app.proofs.AskLemmas.{ask-select, ask-get, ask-other}
 use Rattle.std.proofs.Common.{subst}
 use Rattle.std.specs.Prelude.{option_and_then, IsSomeAnd, is_some, ◌+◌}
 use Rattle.piv_model.specs.declared.history.Refusal.{Refusal}
-use Rattle.piv_model.specs.Forms.{full_aid}
-use Rattle.piv_rules.specs.Forms.{short_aid, idle_aid, tag_named}
+use Rattle.piv_model.specs.ApplicationNames.{application_named}
+use Rattle.piv_rules.specs.Forms.{tag_named}
 
 -- an ask that changes no memory and draws no block
 abbrev is_reading : Ask → Bool
@@ -63,11 +64,12 @@ reads-if : (b : Bool) (a x : Ask) → is_reading a ≡ true → is_reading x ≡
 reads-if true a x h k = h
 reads-if false a x h k = k
 
+reads-named : (o : Option Application) → is_reading (named o) ≡ true
+reads-named None = refl
+reads-named (Some a) = refl
+
 reads-select : (k : CardCommand) → is_reading (select_ask k) ≡ true
-reads-select k =
-    reads-if (not (is_at k 0x04 0x00)) (Refused 0x6A86) _ refl
-    (reads-if (bytes_eq k.body full_aid || bytes_eq k.body short_aid) (Select Piv) _ refl
-    (reads-if (bytes_eq k.body idle_aid) (Select Idle) (Refused 0x6A82) refl refl))
+reads-select k = reads-if (not (is_at k 0x04 0x00)) (Refused 0x6A86) _ refl (reads-named (application_named k.body))
 
 reads-get : (k : CardCommand) → is_reading (get_ask k) ≡ true
 reads-get k = reads-if (not (is_at k 0x3F 0xFF)) (Refused 0x6A86) _ refl (reads-formed (option_and_then tag_named (elements_of k.body)))
@@ -121,10 +123,10 @@ pub mem-call : (B : Base) (H : Past) (e : CardEntry) → B.serves ≡ served →
 mem-call B H e is = mem-step B H e ∙ memory_by-reading (profile B) (did H e) (mem B H) (λ k. reads B k is)
 
 -- an answer by what is kept of the connection
-answer-seen : (B : Base) (H : Past) (c : ℕ) (k : CardCommand)
-    → answer B H c k ≡ answer_in (profile B) (seen (mem B H) (side H c) (next_block B H) (channel B H c)) k
+answer-situation : (B : Base) (H : Past) (c : ℕ) (k : CardCommand)
+    → answer B H c k ≡ answer_in (profile B) (situation (mem B H) (side H c) (next_block B H) (channel B H c)) k
 unfolding answer channel
-answer-seen B H c k = refl
+answer-situation B H c k = refl
 
 -- an exchange on an open connection isn't refused
 not-refused : (H : Past) (c known : ℕ) (bytes : List ℕ) → on H ≡ true → is_open H c ≡ true → epoch H (side H c) ≤ known
@@ -137,7 +139,7 @@ turned-call : (B : Base) (R : Records) (c known word : ℕ) (bytes body : List �
     → B.serves ≡ served → Runs B R → on (entries R) ≡ true → is_open (entries R) c ≡ true
     → epoch (entries R) (side (entries R) c) ≤ known → framing bytes ≡ Ok a → length a.command.body ≤ 255
     → side (entries R) c ≡ i → channel B (entries R) c ≡ x
-    → answer_in (profile_of served (mem B (entries R))) (seen (mem B (entries R)) i (next_block B (entries R)) x) a.command
+    → answer_in (profile_of served (mem B (entries R))) (situation (mem B (entries R)) i (next_block B (entries R)) x) a.command
     ≡ record { word = word; body = body }
     → IsTurned B R (record {
       act = Exchange c known bytes;
@@ -151,8 +153,8 @@ turned-call B R c known word bytes body a i x serves runs power opened new frame
     let whole : frame B R c bytes ≡ WholeFrame a.command a.most = frame-whole B R c bytes a runs (rw serves refl) framed (omega arith) in
     let same : profile B ≡ profile_of served (mem B H) = sym (profile_of-mem B H) ∙ ap (λ s. profile_of s (mem B H)) serves in
     let answered : answer B H c a.command ≡ record { word = word; body = body } =
-    answer-seen B H c a.command
-    ∙ ap (λ (p : Profile). answer_in p (seen (mem B H) (side H c) (next_block B H) (channel B H c)) a.command) same
+    answer-situation B H c a.command
+    ∙ ap (λ (p : Profile). answer_in p (situation (mem B H) (side H c) (next_block B H) (channel B H c)) a.command) same
     ∙ rw (sided, kept) says in
     let none : block_borne B H a.command word ≡ None = rw (asks_block-reading (ask (profile B) a.command) (reads B a.command serves)) refl in
     let P : Option Refusal → Type 0 = λ o. IsTurnedBy o B R (Exchange c known bytes) e told in
@@ -212,6 +214,7 @@ stands-opened state old new B R c i shared stands was store now number =
       serves = stands.serves;
       runs = (stands.runs, opened-turned B R c i shared stands.on none number);
       on = stands.on;
+      power = rw store stands.power;
       memory = rw (store, mem-call B (entries R) (Opened c i shared) stands.serves) stands.memory;
       channels = rw now (channels-opened B (entries R) c i shared _ (IsLegal-runs B R stands.runs) none number refl);
     }
@@ -232,6 +235,7 @@ stands-bad state card B R c known word bytes stands attached new framed = go car
       serves = stands.serves;
       runs = (stands.runs, turned-bad B R c known word bytes stands.on (attached-open x B (entries R) c channels at) new framed);
       on = stands.on;
+      power = stands.power;
       memory = rw (mem-call B (entries R) (Bad c word) stands.serves) stands.memory;
       channels = rw is record { is_open = channels.is_open; side = channels.side; channel = channel-bad B (entries R) x.c c word ∙ channels.channel };
     }
@@ -260,6 +264,7 @@ stands-call state old new B R c known word bytes a called stands new_enough fram
             (called.answer (mem B H) (next_block B H) stands.memory),
       );
       on = stands.on;
+      power = rw called.store stands.power;
       memory = rw (called.store, mem-call B H (Call c a.command word None) stands.serves) stands.memory;
       channels = rw called.now (subst (λ (y : Kept). IsChannelOf y B (Call c a.command word None ∷ H)) (sym called.same) (record {
         is_open = channels.is_open;
@@ -288,11 +293,12 @@ stands-joined state new B R c word act told k body same stands = rw same stands
 
 -- a card without records: the memory is the base's
 pub stands-new : {S : Type 0} (state : S → StoreState) (card : Card S) (B : Base) → B.serves ≡ served → length B.memory.objects ≡ 33
-    → (state card.store).mem ≡ Some B.memory → card.channel ≡ None → StandsFor state card B []
-stands-new state card B serves places memory none = record {
+    → (state card.store).mem ≡ Some B.memory → IsTrue (state card.store).power.on → card.channel ≡ None → StandsFor state card B []
+stands-new state card B serves places memory power none = record {
   serves = serves;
   runs = tt;
   on = refl;
+  power = power;
   memory = memory ∙ ap Some (sym (StartsWithTheBase-law B places));
   channels = rw none (λ c. refl);
 }

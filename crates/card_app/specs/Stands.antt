@@ -1,5 +1,5 @@
 -- What a card stands for: the base and the records that explain what it keeps.
-use Rattle.std.specs.Prelude.{◌≡◌, ◌≤◌, ℕ, length, ◌==◌, Bool, true, false, List, [], Option, Some, None, IsTrue, IsSomeAnd}
+use Rattle.std.specs.Prelude.{◌≡◌, ◌≤◌, ℕ, length, ◌==◌, Bool, true, false, List, [], ◌∷◌, Option, Some, None, IsTrue, IsSomeAnd}
 use Rattle.piv_model.specs.declared.kinds.Interface.{Interface}
 use Rattle.piv_model.specs.Commands.{CardApdu, command_of}
 use Rattle.piv_model.specs.Memory.{Memory}
@@ -7,13 +7,13 @@ use Rattle.piv_model.specs.Stores.{StoreState}
 use Rattle.piv_model.specs.Entries.{CardEntry, Past, Opened, Call, Bad}
 use Rattle.piv_model.specs.Base.{Base, profile_of}
 use Rattle.piv_rules.specs.Acts.{CardAnswer, Connect, Exchange, Connected, Replied, CardRecord, Records, entries}
-use Rattle.piv_rules.specs.Answers.{answer_in}
-use Rattle.piv_rules.specs.Channels.{channel, seen, after_call}
+use Rattle.piv_rules.specs.Answers.{answer_in, situation}
+use Rattle.piv_rules.specs.Channels.{channel, after_call}
 use Rattle.piv_rules.specs.Asks.{ask}
 use Rattle.piv_rules.specs.Connections.{on, is_open, side, epoch}
 use Rattle.piv_rules.specs.Memories.{mem}
 use Rattle.piv_rules.specs.Turns.{Runs, cut_reply}
-use Rattle.card_app.specs.declared.application.Channel.{Channel}
+use Rattle.card_app.specs.declared.channel.Channel.{Channel}
 use Rattle.card_app.specs.declared.card.Card.{Card}
 use Rattle.card_app.specs.declared.card.Outcome.{Outcome}
 use Rattle.card_app.specs.declared.card.Outcome.TheVariants as outcome
@@ -26,9 +26,13 @@ use Rattle.card_app.specs.Serves.{served}
 abbrev pub IsAttached : {S : Type 0} → Card S → ℕ → Type 0
 IsAttached card c = IsSomeAnd card.channel (λ x. x.c ≡ c)
 
+-- the store of a card
+abbrev pub store_of : {S : Type 0} → Card S → S
+store_of card = card.store
+
 -- the card has power
 abbrev pub HasPower : {S : Type 0} → (S → StoreState) → Card S → Type 0
-HasPower state card = IsTrue (state card.store).on
+HasPower state card = IsTrue (state card.store).power.on
 
 -- the card has power, and the connection is attached
 pub record CanExchange {S : Type 0} (state : S → StoreState) (card : Card S) (c : ℕ) : Type 0 where
@@ -49,6 +53,7 @@ AreChannelsOf (Some x) B H = IsChannelOf x B H
 pub record StandsFor {S : Type 0} (state : S → StoreState) (card : Card S) (B : Base) (R : Records) : Type 0 where
   pub serves : B.serves ≡ served
   pub runs : Runs B R
+  pub power : (state card.store).power.on ≡ on (entries R)
   pub on : on (entries R) ≡ true
   pub memory : (state card.store).mem ≡ Some (mem B (entries R))
   pub channels : AreChannelsOf card.channel B (entries R)
@@ -85,6 +90,14 @@ abbrev pub exchange_turned : ℕ → ℕ → List ℕ → Turned → List ℕ �
 exchange_turned c known bytes turned joined reply =
     record { act = Exchange c known bytes; entry = entry_turned c turned joined; answer = answer_turned turned reply }
 
+-- an exchange on the connection c leaves the store as it was and the card ready for the next one; it stands for one record
+-- more, by the epoch from which on its caller knows the connection
+pub record IsExchanged {S : Type 0} (state : S → StoreState) (old new : Card S) (c : ℕ) (record_from : ℕ → CardRecord) : Type 0 where
+  pub store : store_of new ≡ store_of old
+  pub ready : CanExchange state new c
+  pub stands : (B : Base) (R : Records) (known : ℕ) → StandsFor state old B R → epoch (entries R) (side (entries R) c) ≤ known
+      → StandsFor state new B (record_from known ∷ R)
+
 -- a command was executed on the connection, and this word is its answer
 pub record IsCalled {S : Type 0} (state : S → StoreState) (old new : Card S) (c : ℕ) (a : CardApdu) (word : ℕ) : Type 0 where
   pub before : Channel
@@ -96,7 +109,7 @@ pub record IsCalled {S : Type 0} (state : S → StoreState) (old new : Card S) (
   pub store : new.store ≡ old.store
   pub joined : new.joined.bytes.items ≡ a.command.body
   pub answer : (m : Memory) (next : List ℕ) → (state old.store).mem ≡ Some m
-      → answer_in (profile_of served m) (seen m before.interface next (channel_of before)) a.command
+      → answer_in (profile_of served m) (situation m before.interface next (channel_of before)) a.command
       ≡ record { word = word; body = new.reply.bytes.items }
   pub channel : (m : Memory) → (state old.store).mem ≡ Some m
       → channel_of after ≡ after_call (ask (profile_of served m) a.command) word None (channel_of before)

@@ -42,7 +42,7 @@ impl Buffer {
 
     /// Adds an object's value, which has this size.
     pub fn push_object<S: Store>(&mut self, store: &S, id: ObjectId, size: usize)
-        requires on { IsTrue (S.state store.now).on }
+        requires on { IsTrue (S.state store.now).power.on }
         requires room { length self.old.bytes.items + size ≤ self.old.room }
         requires whole { IfSome (S.state store.now).mem (λ m. size ≡ length (stored m id)) }
         ensures pushed { IfSome (S.state store.now).mem (λ m.

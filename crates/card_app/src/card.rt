@@ -3,16 +3,16 @@ ghost use Rattle.std.specs.Prelude.{◌≡◌, ◌≤◌, ◌+◌, ◌-◌, ◌�
 ghost use Rattle.piv_model.specs.Base.{Base};
 ghost use Rattle.piv_rules.specs.Acts.{Records, entries};
 ghost use Rattle.piv_rules.specs.Connections.{epoch, side};
-ghost use Rattle.piv_rules.specs.Frames.{piece_word};
+ghost use Rattle.piv_model.specs.StatusWords.{piece_word};
 ghost use Rattle.piv_rules.specs.Legal.{opened_count};
 ghost use Rattle.card_app.specs.Serves.{served};
 
-use crate::application::{Application, Channel};
 use crate::buffer::Buffer;
+use crate::channel::Channel;
 use crate::commands::execute;
-use crate::words::{BYTES_LEFT, SUCCESS};
 use piv_apdu::read_command;
-use piv_model::{Apdu, Command, Interface, Store};
+use piv_model::status_words::{SUCCESS, piece_word};
+use piv_model::{Apdu, Application, Command, Interface, Store};
 use std::alloc::Global;
 
 // The data of one command, and of one reply.
@@ -69,17 +69,18 @@ impl<S: Store> Card<S> {
     ghost use Rattle.std.specs.Borrow.{sem, follows_so};
     ghost use mathlib.Core.Option.{none};
     ghost use Rattle.card_app.specs.contracts.card.Card.{the_row};
-    ghost use Rattle.card_app.specs.Stands.{StandsFor, HasPower, CanExchange, IsAttached, opening, exchange_by, exchange_turned, IsCalled, DrewNothing, IsShort, IsShortTurn};
+    ghost use Rattle.card_app.specs.Stands.{StandsFor, HasPower, CanExchange, IsExchanged, IsAttached, store_of, opening, exchange_by, exchange_turned, IsCalled, DrewNothing, IsShort, IsShortTurn};
     ghost use Rattle.piv_model.specs.Commands.{apdu_of};
 
     /// A card over a store that has power. Its buffers are reserved here; where memory is wanting the
     /// store is handed back.
     pub fn new(alloc: Global, store: S) -> Result<Card<S>, CardFault<S>>
-        requires { IsTrue (S.state store).on }
+        requires { IsTrue (S.state store).power.on }
         ensures stands { IfOk result (λ card. (B : Base) → B.serves ≡ served
             → (S.state store).mem ≡ Some B.memory → StandsFor S.state card B []) }
         ensures free { IfOk result (λ card. (c : ℕ) → IsAttached card c → ⊥) }
         ensures on { IfOk result (λ card. HasPower S.state card) }
+        ensures same { IfOk result (λ card. store_of card ≡ store) }
         ensures err { IfErr result (λ fault. fault ≡ CardFault.NoMemory store) }
     {
         let Ok(joined) = Buffer::with_room(alloc, COMMAND_ROOM) else {
@@ -103,6 +104,7 @@ impl<S: Store> Card<S> {
         ensures full { (d : ℕ) → IsAttached self.old d → result ≡ false }
         ensures free { ((d : ℕ) → IsAttached self.old d → ⊥) → result ≡ true }
         ensures same { result ≡ false → self.new ≡ self.old }
+        ensures store { store_of self.new ≡ store_of self.old }
         ensures ready { result ≡ true → HasPower S.state self.old → CanExchange S.state self.new c }
         ensures stands { result ≡ true → (B : Base) (R : Records) (shared : Bool) → StandsFor S.state self.old B R
             → c ≡ opened_count (entries R) + 1
@@ -125,11 +127,9 @@ impl<S: Store> Card<S> {
     pub fn exchange(&mut self, c: u32, bytes: &[u8], block: &[u8; 16]) -> Outcome<'_>
         requires { CanExchange S.state self.old c }
 
-        // Once the lent outcome ends, the card stands for one record more.
+        // Once the lent outcome ends, the card stands for one record more, and its store is as it was.
         ensures* after { sem 𝓛 (follows_so (the_row S.row) (the_row S.row) self.entry.ghost_name none (λ _ _. ⊤)
-            (λ new. CanExchange S.state new c × ((B : Base) (R : Records) (known : ℕ) → StandsFor S.state self.old B R
-            → epoch (entries R) (side (entries R) c) ≤ known
-            → StandsFor S.state new B (exchange_by c known bytes.now result ∷ R)))) }
+            (λ new. IsExchanged S.state self.old new c (λ known. exchange_by c known bytes.now result))) }
         ensures small { IsShort result }
         ensures drew { DrewNothing result }
     {
@@ -141,11 +141,9 @@ impl<S: Store> Card<S> {
     // The exchange. After a call `joined` has the command's data and `reply` the reply's.
     fn turn(&mut self, c: u32, bytes: &[u8]) -> Turned
         requires { CanExchange S.state self.old c }
-        ensures ready { CanExchange S.state self.new c }
         ensures small { IsShortTurn result }
-        ensures stands { (B : Base) (R : Records) (known : ℕ) → StandsFor S.state self.old B R
-            → epoch (entries R) (side (entries R) c) ≤ known
-            → StandsFor S.state self.new B (exchange_turned c known bytes.now result self.new.joined.bytes.items self.new.reply.bytes.items ∷ R) }
+        ensures exchanged { let joined = self.new.joined.bytes.items in let reply = self.new.reply.bytes.items in
+            IsExchanged S.state self.old self.new c (λ known. exchange_turned c known bytes.now result joined reply) }
     {
         match read_command(bytes) {
             Err(word) => Turned::Bad(word),
@@ -228,14 +226,6 @@ fn first_piece(reply: &[u8], most: usize) -> (&[u8], u16)
     ensures piece { result.0.now ≡ take most reply.now }
     ensures word { result.1 ≡ piece_word (length reply.now - most) }
 {
-    if reply.len() <= most {
-        return (reply, SUCCESS);
-    }
-    let left = reply.len() - most;
-    let word = if left < 256 {
-        BYTES_LEFT + left as u16
-    } else {
-        BYTES_LEFT
-    };
-    (&reply[..most], word)
+    let size = most.min(reply.len());
+    (&reply[..size], piece_word(reply.len() - size))
 }

@@ -3,18 +3,18 @@ ghost use Rattle.std.specs.Prelude.{◌≡◌, ◌≤◌, [], List, ℕ, Some, N
 ghost use Rattle.piv_model.specs.Commands.{command_of};
 ghost use Rattle.piv_model.specs.Memory.{Memory};
 ghost use Rattle.piv_rules.specs.Asks.{ask, select_ask};
-ghost use Rattle.piv_rules.specs.Answers.{answer_in, select_reply};
+ghost use Rattle.piv_rules.specs.Answers.{answer_in, select_reply, situation};
 ghost use Rattle.piv_model.specs.Base.{profile_of};
-ghost use Rattle.piv_rules.specs.Channels.{after_call, seen};
+ghost use Rattle.piv_rules.specs.Channels.{after_call};
 ghost use Rattle.card_app.specs.Channels.{channel_of};
 ghost use Rattle.card_app.specs.Serves.{served};
 
-use crate::application::{Application, Channel};
 use crate::buffer::Buffer;
+use crate::channel::Channel;
 use crate::get_data::{get_asked, give};
 use crate::select::{TEMPLATE, select_asked};
-use crate::words::{INSTRUCTION_NOT_SUPPORTED, SUCCESS};
-use piv_model::{Command, Store};
+use piv_model::status_words::{INSTRUCTION_NOT_SUPPORTED, SUCCESS};
+use piv_model::{Application, Command, Store};
 
 const SELECT: u8 = 0xA4;
 
@@ -25,7 +25,7 @@ fn select(channel: &mut Channel, command: Command<'_>, reply: &mut Buffer) -> u1
     requires empty { reply.old.bytes.items ≡ [] }
     requires room { 16400 ≤ reply.old.room }
     ensures answer { (m : Memory) (next : List ℕ) →
-        select_reply (seen m channel.old.interface next (channel_of channel.old)) (select_ask (command_of command.entry))
+        select_reply (situation m channel.old.interface next (channel_of channel.old)) (select_ask (command_of command.entry))
         ≡ record { word = result; body = reply.new.bytes.items } }
     ensures channel { channel_of channel.new
         ≡ after_call (select_ask (command_of command.entry)) result None (channel_of channel.old) }
@@ -53,11 +53,11 @@ pub fn execute<S: Store>(
     command: Command<'_>,
     reply: &mut Buffer,
 ) -> u16
-    requires on { IsTrue (S.state store.now).on }
+    requires on { IsTrue (S.state store.now).power.on }
     requires empty { reply.old.bytes.items ≡ [] }
     requires room { 16400 ≤ reply.old.room }
     ensures answer { (m : Memory) (next : List ℕ) → (S.state store.now).mem ≡ Some m →
-        answer_in (profile_of served m) (seen m channel.old.interface next (channel_of channel.old)) (command_of command.entry)
+        answer_in (profile_of served m) (situation m channel.old.interface next (channel_of channel.old)) (command_of command.entry)
         ≡ record { word = result; body = reply.new.bytes.items } }
     ensures channel { (m : Memory) → (S.state store.now).mem ≡ Some m →
         channel_of channel.new ≡ after_call (ask (profile_of served m) (command_of command.entry)) result None (channel_of channel.old) }

@@ -4,21 +4,18 @@ ghost use Rattle.ber_tlv.specs.Elements.{elements_of};
 ghost use Rattle.piv_model.specs.Commands.{command_of};
 ghost use Rattle.piv_model.specs.Memory.{Memory};
 ghost use Rattle.piv_rules.specs.Asks.{Get, Refused, get_ask};
-ghost use Rattle.piv_rules.specs.Answers.{answer_to, holds};
-ghost use Rattle.piv_rules.specs.Channels.{seen};
+ghost use Rattle.piv_rules.specs.Answers.{answer_to, holds, situation};
 ghost use Rattle.piv_rules.specs.Forms.{tag_named};
 ghost use Rattle.card_app.specs.Channels.{channel_of, shown};
 
-use crate::application::Channel;
 use crate::buffer::Buffer;
-use crate::words::{
-    INCORRECT_DATA, INCORRECT_PARAMETERS, NOT_FOUND, SECURITY_STATUS_NOT_SATISFIED, SUCCESS,
-};
+use crate::channel::Channel;
 use ber_tlv::header;
+use piv_model::status_words::{
+    INCORRECT_DATA, INCORRECT_P1_P2, NOT_FOUND, SECURITY_STATUS_NOT_SATISFIED, SUCCESS,
+};
 use piv_model::{Command, Interface, ObjectId, Rule, Store, object_by_tag, read_rule};
 use piv_objects::tag_list;
-
-const DISCOVERY: u8 = 10;
 
 // The tag that the data name.
 fn named_tag(body: &[u8]) -> Option<&[u8]>
@@ -34,7 +31,7 @@ pub fn get_asked(command: Command<'_>) -> Result<ObjectId, u16>
         (λ word. get_ask (command_of command.entry) ≡ Refused word) }
 {
     if command.p1 != 0x3F || command.p2 != 0xFF {
-        return Err(INCORRECT_PARAMETERS);
+        return Err(INCORRECT_P1_P2);
     }
     match named_tag(command.body) {
         None => Err(INCORRECT_DATA),
@@ -48,7 +45,7 @@ pub fn get_asked(command: Command<'_>) -> Result<ObjectId, u16>
 // Whether an access rule holds on a connection. No login exists.
 fn is_permitted(rule: Rule, channel: &Channel) -> bool
     ensures { (m : Memory) (next : List ℕ) →
-        result ≡ holds (seen m channel.now.interface next (channel_of channel.now)) rule }
+        result ≡ holds (situation m channel.now.interface next (channel_of channel.now)) rule }
 {
     match rule {
         Rule::Always => true,
@@ -60,12 +57,12 @@ fn is_permitted(rule: Rule, channel: &Channel) -> bool
 /// Answers a GET DATA of this object, where PIV is selected. The data go into `reply`.
 #[tactic(auto, unfolding(piv_rules::specs::Answers::answer_to))]
 pub fn give<S: Store>(store: &S, channel: &Channel, id: ObjectId, reply: &mut Buffer) -> u16
-    requires on { IsTrue (S.state store.now).on }
+    requires on { IsTrue (S.state store.now).power.on }
     requires selected { (channel_of channel.now).piv ≡ true }
     requires empty { reply.old.bytes.items ≡ [] }
     requires room { 16400 ≤ reply.old.room }
     ensures answer { (m : Memory) (next : List ℕ) → (S.state store.now).mem ≡ Some m →
-        answer_to (seen m channel.now.interface next (channel_of channel.now)) (Get id)
+        answer_to (situation m channel.now.interface next (channel_of channel.now)) (Get id)
         ≡ record { word = result; body = reply.new.bytes.items } }
     ensures room { reply.new.room ≡ reply.old.room }
 {
@@ -76,7 +73,11 @@ pub fn give<S: Store>(store: &S, channel: &Channel, id: ObjectId, reply: &mut Bu
     if length == 0 {
         return NOT_FOUND;
     }
-    let tag = if id.place() == DISCOVERY { 0x7E } else { 0x53 };
+    let tag = if id == ObjectId::discovery() {
+        0x7E
+    } else {
+        0x53
+    };
     reply.push(header(tag, length).as_slice());
     reply.push_object(store, id, length);
     SUCCESS

@@ -18,7 +18,7 @@ const GET_CHUID: [u8; 10] = [0x00, 0xCB, 0x3F, 0xFF, 0x05, 0x5C, 0x03, 0x5F, 0xC
 const GET_PRINTED: [u8; 10] = [0x00, 0xCB, 0x3F, 0xFF, 0x05, 0x5C, 0x03, 0x5F, 0xC1, 0x09];
 
 fn plain_store(alloc: Global) -> Result<MemoryStore, Fail>
-    ensures { IfOk result (λ store. IsTrue (⟦<MemoryStore as Store>⟧.state store).on) }
+    ensures { IfOk result (λ store. IsTrue (⟦<MemoryStore as Store>⟧.state store).power.on) }
 {
     let start = plain_start(alloc)?;
     Ok(MemoryStore::new(alloc, &start, Vec::new(alloc))?)
@@ -26,7 +26,7 @@ fn plain_store(alloc: Global) -> Result<MemoryStore, Fail>
 
 // A store that tells nothing of itself, whose CHUID has 300 bytes C3.
 fn long_store(alloc: Global) -> Result<MemoryStore, Fail>
-    ensures { IfOk result (λ store. IsTrue (⟦<MemoryStore as Store>⟧.state store).on) }
+    ensures { IfOk result (λ store. IsTrue (⟦<MemoryStore as Store>⟧.state store).power.on) }
 {
     let mut store = plain_store(alloc)?.untold();
     let Some(chuid) = object_by_tag(&GET_CHUID[7..]) else {
@@ -46,7 +46,7 @@ fn get<S: Store + Drop>(
     interface: Interface,
     command: &[u8],
 ) -> Result<(usize, u16), Fail>
-    requires { IsTrue (S.state store).on }
+    requires { IsTrue (S.state store).power.on }
 {
     let Ok(mut card) = Card::new(alloc, store) else {
         return Err(Fail::from("no memory"));

@@ -1,9 +1,11 @@
 -- Calls of a store, one after the other.
-use Rattle.std.proofs.Common.{◌≡◌, ◌⊎◌, inl, inr, ℕ, ◌≤◌, Bool, true, false, List, length, Option, Some, None, IfSome, refl, ap, sym, ◌∙◌, subst}
+use Rattle.std.proofs.Common.{◌≡◌, ◌⊎◌, inl, inr, ℕ, Bool, true, false, List, Option, Some, None, IfSome, refl, ap, sym, ◌∙◌, subst}
 use Rattle.std.specs.Prelude.{◌↔◌, option_map}
-use Rattle.loss_words.specs.Due.{RisesFrom, is_due, due_after, after_loss}
-use Rattle.loss_words.specs.Told.{Rose}
-use Rattle.loss_words.proofs.DueLaws.{is_due-after, told_after-after, told_after-none}
+use Rattle.power_loss.specs.Due.{is_due, due_after, after_loss}
+use Rattle.power_loss.specs.Told.{Rose}
+use Rattle.power_loss.specs.Power.{RisesWithin}
+use Rattle.power_loss.proofs.PowerLaws.{due_later}
+use Rattle.power_loss.proofs.DueLaws.{is_due-after, told_after-after, told_after-none}
 use Rattle.piv_model.specs.declared.kinds.RefId.{RefId}
 use Rattle.piv_model.specs.declared.kinds.RefId.TheVariants.{Pin, Puk, GlobalPin}
 use Rattle.piv_model.specs.declared.kinds.Took.TheVariants.{Spent, Done}
@@ -21,11 +23,11 @@ map-same change same (Some m) = ap Some (same m)
 
 -- no call was made
 pub unchanged : (s : StoreState) (change : Memory → Memory) → ((m : Memory) → change m ≡ m)
-    → IfSome s.due (λ due. RisesFrom 0 due × (length due ≤ s.span)) → s ≡ changed 0 change s
+    → RisesWithin s.power.span s.power.due → s ≡ changed 0 change s
 unchanged s change same rises =
     let mem = sym (map-same change same s.mem) in
-    let due = sym (told_after-none s.due s.span rises) in
-    λ i. record s { mem = mem i; due = due i }
+    let due = sym (told_after-none s.power.due s.power.span rises) in
+    λ i. record { mem = mem i; power = record s.power { due = due i } }
 
 -- a match makes no difference between a spent try and none
 match-global : (f : Reference → Reference) → ((x : Reference) → f (one_less x) ≡ f x) → (g : Option Reference)
@@ -65,16 +67,33 @@ not_due n (Some due) h = go (is_due n due) h.1
     go true f = sym (f refl)
     go false f = refl
 
+one_due : (n : ℕ) (told : Option (List ℕ)) → IsOneDue n told → IfSome told (λ due. is_due n due ≡ true)
+one_due n None h = tt
+one_due n (Some due) h = h.0 refl
+
+-- what was due in the second of two calls, told before the first
+pub later_none : (change : Memory → Memory) (first second : StoreState) → second ≡ changed 2 change first
+    → IsNoneDue 2 first.power.due → IsNoneDue 2 second.power.due → IfSome first.power.due (λ due. is_due 4 due ≡ false)
+later_none change first second is none later =
+    due_later 2 2 first.power second.power (ap (λ (s : StoreState). s.power) is) (not_due 2 first.power.due none) false
+    (not_due 2 second.power.due later)
+
+pub later_one : (change : Memory → Memory) (first second : StoreState) → second ≡ changed 2 change first
+    → IsNoneDue 2 first.power.due → IsOneDue 2 second.power.due → IfSome first.power.due (λ due. is_due 4 due ≡ true)
+later_one change first second is none later =
+    due_later 2 2 first.power second.power (ap (λ (s : StoreState). s.power) is) (not_due 2 first.power.due none) true
+    (one_due 2 second.power.due later)
+
 -- a try was spent, and then the counter was filled
 pub filled_after : (r : RefId) (purpose : Purpose) (first second third : StoreState)
-    → second ≡ changed 2 (change_reference r one_less) first → IsNoneDue 2 first.due
+    → second ≡ changed 2 (change_reference r one_less) first → IsNoneDue 2 first.power.due
     → third ≡ changed 2 (after_match r purpose) second
     → third ≡ changed 4 (after_match r purpose) first
 filled_after r purpose first second third spent due filled =
     filled ∙ ap (changed 2 (after_match r purpose)) spent
-    ∙ (λ i. record first {
+    ∙ (λ i. record {
       mem = map-match r purpose first.mem i;
-      due = told_after-after 2 2 first.due (not_due 2 first.due due) i;
+      power = record first.power { due = told_after-after 2 2 first.power.due (not_due 2 first.power.due due) i };
     })
 
 -- the first loss came in the second of two calls
@@ -89,22 +108,21 @@ lost_second (Some due) ok lost =
 
 -- a try was spent, and power was lost while the counter was filled
 pub lost_after : (r : RefId) (p : List ℕ) (purpose : Purpose) (first second third : StoreState)
-    → second ≡ changed 2 (change_reference r one_less) first → IsNoneDue 2 first.due
-    → CutShort 2 (after_match r purpose) second third → IsOneDue 2 second.due
+    → second ≡ changed 2 (change_reference r one_less) first → IsNoneDue 2 first.power.due
+    → CutShort 2 (after_match r purpose) second third → IsOneDue 2 second.power.due
     → LostBetween Spent Done (Compare r p purpose) first third
 lost_after r p purpose first second third spent due cut lost =
-    let told = ap (λ (s : StoreState). s.due) spent in
+    let told = ap (λ (s : StoreState). s.power.due) spent in
     record {
-      which = go cut.which;
-      rose = subst (λ (s : StoreState). Rose s.losses third.losses) spent cut.rose;
-      others = cut.others ∙ ap (λ (s : StoreState). record s {
-        mem = third.mem;
+      left = go cut.left;
+      rose = subst (λ (s : StoreState). Rose s.power.losses third.power.losses) spent cut.rose;
+      power = cut.power ∙ ap (λ (s : StoreState). record s.power {
         on = false;
-        losses = third.losses;
-        due = option_map (due_after 2) s.due;
+        losses = third.power.losses;
+        due = option_map (due_after 2) s.power.due;
       }) spent
-          ∙ ap (λ (due : Option (List ℕ)). record first { mem = third.mem; on = false; losses = third.losses; due = due })
-          (lost_second first.due due (subst (IsOneDue 2) told lost));
+          ∙ ap (λ (due : Option (List ℕ)). record first.power { on = false; losses = third.power.losses; due = due })
+          (lost_second first.power.due due (subst (IsOneDue 2) told lost));
     }
   where
     go : (third.mem ≡ second.mem) ⊎ (third.mem ≡ option_map (after_match r purpose) second.mem)

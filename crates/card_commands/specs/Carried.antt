@@ -1,79 +1,91 @@
 -- What VERIFY, CHANGE REFERENCE DATA and RESET RETRY COUNTER, each a comparison, and PUT DATA answer and leave, once their
 -- form and access rule are tested (SP 800-73-4 part 2; what a loss of power leaves is this project's own).
-use Rattle.std.specs.Prelude.{◌≡◌, ◌⊎◌, ℕ, ◌-◌, Bool, true, false, List, Result, IfSome, IfOk, IfErr, if◌then◌else◌}
+use Rattle.std.specs.Prelude.{◌≡◌, ◌⊎◌, ℕ, ◌≤◌, ◌==◌, ◌&&◌, ◌||◌, nat_le, Bool, true, false, List, length, Result, IsTrue, IfSome, IfOk, IfErr}
+use Rattle.std.specs.declared.option.Option.{Option}
 use Rattle.std.specs.Option.{option_map}
 use Rattle.std.specs.Str.{bytes_eq}
-use Rattle.loss_words.specs.Due.{is_due, after_loss}
-use Rattle.loss_words.specs.Told.{Rose, LostWhereDue}
+use Rattle.power_loss.specs.Due.{is_due, after_loss}
+use Rattle.power_loss.specs.Told.{LostWhereDue}
+use Rattle.power_loss.specs.Power.{PowerLost}
 use Rattle.piv_model.specs.declared.kinds.Took.{Took}
 use Rattle.piv_model.specs.declared.kinds.Took.TheVariants.{Nothing, Spent, Done}
+use Rattle.piv_model.specs.StatusWords.{tries_word}
 use Rattle.piv_model.specs.Memory.{Memory, stored}
 use Rattle.piv_model.specs.Stores.{StoreState, changed}
-use Rattle.piv_rules.specs.StatusWords.{tries_word}
 use Rattle.piv_rules.specs.Asks.{Ask, Put, Compare}
-use Rattle.piv_rules.specs.Answers.{is_blocked, differs, has_no_room, tries_left}
+use Rattle.piv_rules.specs.Answers.{is_blocked, tries_left, memory_conditions, word_by}
 use Rattle.piv_rules.specs.Effects.{memory_after, took_by}
 use Rattle.piv_rules.specs.Plans.{cost_of}
-use Rattle.card_commands.specs.declared.broken.Broken.{Broken}
-use Rattle.card_commands.specs.declared.broken.Broken.TheVariants.{Spending, Filling, Putting}
+use Rattle.card_commands.specs.declared.executed.Broken.{Broken}
+use Rattle.card_commands.specs.declared.executed.Broken.TheVariants.{Spending, Filling, Putting}
 
--- the word, by the last lines of the table of answers
+-- the word, by the lines of the table of answers that the memory decides
 abbrev pub last_lines_word : Memory → Ask → ℕ
-last_lines_word m a =
-    -- no try is left
-    if is_blocked m a then 0x6983
-    -- another value, and so many tries are left
-    else if differs m a then tries_word (tries_left m a - 1)
-    -- not enough memory
-    else if has_no_room m a then 0x6A84
-    else 0x9000
+last_lines_word m a = word_by (memory_conditions m a)
 
--- a command that lost power after it came so far, or further: the memory is one of these two, the power is off, and the
--- first loss that was due has come
-pub record LostBetween (first second : Took) (a : Ask) (old new : StoreState) : Type 0 where
-  pub which : (new.mem ≡ option_map (memory_after a first) old.mem) ⊎ (new.mem ≡ option_map (memory_after a second) old.mem)
-  pub rose : Rose old.losses new.losses
-  pub others : new ≡ record old {
-    mem = new.mem;
-    on = false;
-    losses = new.losses;
-    due = option_map after_loss old.due;
-  }
+-- a word that such a command may answer, whatever the memory holds: a comparison 69 83, 63 CX with at most 14 tries left,
+-- or 90 00, and a put 6A 84 or 90 00
+abbrev pub is_last_word : Ask → ℕ → Bool
+is_last_word (Compare r p purpose) sw = (sw == 0x6983) || (nat_le 0x63C0 sw && nat_le sw 0x63CE) || (sw == 0x9000)
+is_last_word (Put place v) sw = (sw == 0x6A84) || (sw == 0x9000)
+is_last_word _ sw = false
+
+-- so many tries there were, at least the one that was spent
+abbrev pub AreTries : ℕ → Type 0
+AreTries n = (1 ≤ n) × (n ≤ 15)
+
+-- the memory after the command came so far, or further
+abbrev pub IsBetween : Took → Took → Ask → Option Memory → Option Memory → Type 0
+IsBetween first second a old new =
+    (new ≡ option_map (memory_after a first) old) ⊎ (new ≡ option_map (memory_after a second) old)
+
+-- a command that lost power there: the first loss that was due has come
+abbrev pub LostBetween : Took → Took → Ask → StoreState → StoreState → Type 0
+LostBetween first second a old new =
+    PowerLost (option_map after_loss old.power.due) (IsBetween first second a old.mem new.mem) old.power new.power
 
 -- power was lost in the two writes that spend a try of a reference that isn't blocked
 pub record LostSpending (a : Ask) (told : ℕ) (old new : StoreState) : Type 0 where
   pub leaves : LostBetween Nothing Spent a old new
-  pub moment : IfSome old.due (λ due. is_due 2 due ≡ true)
+  pub moment : IfSome old.power.due (λ due. is_due 2 due ≡ true)
   pub cause : IfSome old.mem (λ m. is_blocked m a ≡ false)
+  pub few : AreTries told
   pub tries : IfSome old.mem (λ m. told ≡ tries_left m a)
 
--- power was lost in the later writes of a comparison that matched
+-- power was lost in the two later writes of a comparison that matched
 pub record LostFilling (a : Ask) (told : ℕ) (old new : StoreState) : Type 0 where
   pub leaves : LostBetween Spent Done a old new
-  pub moment : IfSome old.due (λ due. is_due 2 due ≡ false)
+  pub spent : IfSome old.power.due (λ due. is_due 2 due ≡ false)
+  pub moment : IfSome old.power.due (λ due. is_due 4 due ≡ true)
   pub cause : IfSome old.mem (λ m. last_lines_word m a ≡ 0x9000)
+  pub few : AreTries told
   pub tries : IfSome old.mem (λ m. told ≡ tries_left m a)
 
--- power was lost while a value that has room was put in place
-pub record LostPutting (place : ℕ) (v : List ℕ) (told : Bool) (old new : StoreState) : Type 0 where
+-- power was lost in the writes that put a value in place, which has room
+pub record LostPutting (writes place : ℕ) (v : List ℕ) (told : Bool) (old new : StoreState) : Type 0 where
   pub leaves : LostBetween Nothing Done (Put place v) old new
+  pub moment : IfSome old.power.due (λ due. is_due writes due ≡ true)
   pub cause : IfSome old.mem (λ m. last_lines_word m (Put place v) ≡ 0x9000)
   pub same : IfSome old.mem (λ m. told ≡ bytes_eq (stored m place) v)
 
 -- by the call that lost power
-abbrev pub Breaks : Ask → Broken → StoreState → StoreState → Type 0
-Breaks (Compare r p purpose) (Spending tries) old new = LostSpending (Compare r p purpose) tries old new
-Breaks (Compare r p purpose) (Filling tries) old new = LostFilling (Compare r p purpose) tries old new
-Breaks (Put place v) (Putting same) old new = LostPutting place v same old new
-Breaks _ _ old new = ⊥
+abbrev pub Breaks : (ℕ → ℕ) → Ask → Broken → StoreState → StoreState → Type 0
+Breaks put_cost (Compare r p purpose) (Spending tries) old new = LostSpending (Compare r p purpose) tries old new
+Breaks put_cost (Compare r p purpose) (Filling tries) old new = LostFilling (Compare r p purpose) tries old new
+Breaks put_cost (Put place v) (Putting same) old new = LostPutting (put_cost (length v)) place v same old new
+Breaks put_cost _ _ old new = ⊥
 
 -- what a command that asks this answers and leaves
 pub record Carries (put_cost : ℕ → ℕ) (a : Ask) (result : Result ℕ Broken) (old new : StoreState) : Type 0 where
   -- the word is that of the table of answers
   pub word : IfOk result (λ sw. IfSome old.mem (λ m. sw ≡ last_lines_word m a))
+  -- whatever the memory holds it is one of theirs
+  pub kind : IfOk result (λ sw. IsTrue (is_last_word a sw))
   -- the memory is as far as the word tells, after so many writes
   pub carried : IfOk result (λ sw. new ≡ changed (cost_of put_cost a sw) (memory_after a (took_by sw)) old)
   -- where power was lost, the answer is the call that lost it
-  pub broken : IfErr result (λ broken. Breaks a broken old new)
+  pub broken : IfErr result (λ broken. Breaks put_cost a broken old new)
+  -- none of the writes that were made was due
+  pub none_due : IfOk result (λ sw. IfSome old.power.due (λ due. is_due (cost_of put_cost a sw) due ≡ false))
   -- power is lost exactly where a loss is due within the command's writes
-  pub due : IfSome old.mem (λ m. LostWhereDue (cost_of put_cost a (last_lines_word m a)) old.due result)
+  pub due : IfSome old.mem (λ m. LostWhereDue (cost_of put_cost a (last_lines_word m a)) old.power.due result)

@@ -7,7 +7,7 @@ use Rattle.card_commands.specs.Carried.{last_lines_word}
 
 -- PIV is selected, and the access rule holds
 abbrev pub AnswersByTheTable : Ask → Type 0
-AnswersByTheTable a = (s : Situation) → s.piv ≡ true → holds s (rule_of s.interface a) ≡ true
+AnswersByTheTable a = (s : Situation) → s.channel.piv ≡ true → holds s (rule_of s.interface a) ≡ true
     → (answer_to s a).word ≡ last_lines_word s.memory a
 
 abbrev pub ComparesByTheTable : Type 0

@@ -1,16 +1,27 @@
-//! The commands that compare a reference or put an object, over any store: VERIFY, CHANGE REFERENCE DATA,
-//! RESET RETRY COUNTER and PUT DATA (SP 800-73-4 part 2), from the retry counter and the room on.
+//! The commands of the card, over any store: SELECT, GET DATA, PUT DATA, VERIFY, CHANGE REFERENCE DATA,
+//! RESET RETRY COUNTER and GENERAL AUTHENTICATE (SP 800-73-4 part 2), and what one did that lost power.
 #![tactic(auto)]
 
-mod broken;
-mod comparing;
-mod putting;
-mod table;
+mod access;
+mod asked;
+mod change_reference_data;
+mod comparison;
+mod connection;
+mod executed;
+mod execution;
+mod general_authenticate;
+mod get_data;
+mod laws;
+mod put_data;
+mod recovery;
+mod reset_retry_counter;
+mod select;
 #[cfg(test)]
 mod tests;
-mod words;
+mod verify;
 
-pub use broken::Broken;
-pub use comparing::{change, unblock, verify};
-pub use putting::put;
-pub use table::words_are_those_of_the_table;
+pub use connection::Conn;
+pub use executed::{Broken, Executed};
+pub use execution::execute;
+pub use laws::{losses_are_told, words_are_those_of_the_table};
+pub use recovery::took;

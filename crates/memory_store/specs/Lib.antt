@@ -1,5 +1,3 @@
-pub mod Losses
-pub mod Plans
 pub mod References
 pub mod Changes
 pub mod Told

@@ -4,7 +4,6 @@
 mod keys;
 mod loss;
 mod memory;
-mod plan;
 mod reference;
 mod store;
 #[cfg(test)]

@@ -8,8 +8,4 @@ pub enum Leaves {
 }
 
 /// The write of this number, counted from 1, is lost.
-#[derive(Clone, Copy, PartialEq, Eq, Debug)]
-pub struct Loss {
-    pub write: u64,
-    pub leaves: Leaves,
-}
+pub type Loss = power_loss::Loss<Leaves>;

@@ -1,22 +1,19 @@
 // A card's memory.
-ghost use Rattle.std.specs.Prelude.{◌≡◌, ◌≤◌, length, true, false, IsSome, IfSome, IfNone, IfOk};
+ghost use Rattle.std.specs.Prelude.{◌≡◌, ◌≤◌, length, option_map, true, false, IsSome, IfSome, IfNone, IfOk};
 ghost use Rattle.piv_model.specs.declared.kinds.RefId.TheVariants.{GlobalPin};
 ghost use Rattle.piv_model.specs.Memory.{has, reference, key_at, stored, blocks as blocks_of, blocks_used, fits};
 ghost use Rattle.piv_model.specs.Changes.{change_reference, one_less, full, renewed, with_object};
-ghost use Rattle.piv_model.specs.Starts.{memory_of_start, SpellsMemory};
+ghost use Rattle.piv_model.specs.Starts.{global_of, memory_of_start, SpellsMemory};
 ghost use Rattle.memory_store.specs.References.{reference_of};
 ghost use Rattle.memory_store.specs.Changes.{changed_by, bytes_put};
 
 use crate::keys::StoredKey;
 use crate::reference::Reference;
-use crate::value::{LONGEST, Value};
-use piv_model::{KeyId, NoMemory, ObjectId, RefId, Start};
+use crate::value::Value;
+use piv_model::limits::{BLOCK, LONGEST_OBJECT, OBJECTS};
+use piv_model::{KeyId, NoMemory, ObjectId, RefId, Start, StartGlobal};
 use std::alloc::Global;
 use std::marker::Model;
-
-const BLOCK: usize = 64;
-
-const PLACES: usize = 33;
 
 // How the memory is to change.
 #[derive(Clone, Copy)]
@@ -84,15 +81,23 @@ fn placed_objects(alloc: Global, start: &Start) -> Result<Vec<Value>, NoMemory>
     requires { SpellsMemory start.now }
     ensures { IfOk result (λ objects. objects.items ≡ (memory_of_start start.now).objects) }
 {
-    let Ok(mut objects) = Vec::with_capacity(alloc, PLACES) else {
-        return Err(NoMemory);
-    };
-    for place in 0..PLACES {
+    let mut objects = Vec::with_capacity(alloc, OBJECTS)?;
+    for place in 0..OBJECTS {
         objects
             .push(Value::new(alloc, start.objects.find(place))?)
             .unwrap();
     }
     Ok(objects)
+}
+
+// The Global PIN, if there is one, with a full counter.
+fn global_reference(global: StartGlobal) -> Option<Reference>
+    ensures { option_map reference_of result ≡ global_of global }
+{
+    if global.limit == 0 {
+        return None;
+    }
+    Some(Reference::new(global.limit, global.pin))
 }
 
 impl CardMemory {
@@ -104,7 +109,7 @@ impl CardMemory {
         Ok(CardMemory {
             pin: Reference::new(start.limit_pin, start.pin),
             puk: Reference::new(start.limit_puk, start.puk),
-            global: None,
+            global: global_reference(start.global),
             admin: StoredKey::new(&start.admin),
             card_auth: StoredKey::new(&start.card_auth),
             budget: start.budget as usize,
@@ -197,7 +202,8 @@ impl CardMemory {
         ensures room { result ≡ fits self.now value.now }
         ensures short { result ≡ true → length value.now ≤ 16384 }
     {
-        value.len() <= LONGEST && blocks(value.len()) + blocks_of_all(&self.objects) <= self.budget
+        value.len() <= LONGEST_OBJECT
+            && blocks(value.len()) + blocks_of_all(&self.objects) <= self.budget
     }
 
     pub(crate) fn key(&self, key: KeyId) -> &StoredKey

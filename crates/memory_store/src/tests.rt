@@ -1,12 +1,13 @@
 ghost use Rattle.std.specs.Prelude.{◌≡◌, true, false, None, IfOk};
-ghost use Rattle.loss_words.specs.Due.{RisesFrom};
+ghost use Rattle.power_loss.specs.Due.{RisesFrom};
 ghost use Rattle.piv_model.specs.Forms.{is_secret, is_pin};
 ghost use Rattle.piv_model.specs.Starts.{SpellsMemory};
-ghost use Rattle.memory_store.specs.Losses.{write_numbers};
+ghost use Rattle.power_loss.specs.Plans.{write_numbers};
 
 use crate::{Leaves, Loss, MemoryStore};
 use piv_model::{
-    KeyId, Lost, NoMemory, ObjectId, PutFault, RefId, Start, Store, object_by_tag, plain_start,
+    KeyId, Lost, NoMemory, ObjectId, PutFault, RefId, Start, StartGlobal, Store, object_by_tag,
+    plain_start,
 };
 use std::alloc::Global;
 use std::process::Abort;
@@ -42,17 +43,29 @@ fn small_start(alloc: Global) -> Result<Start, NoMemory>
     Ok(start)
 }
 
-fn lost_at(write: u64, leaves: Leaves) -> Loss
+// A plain start with a Global PIN of four tries.
+fn global_start(alloc: Global) -> Result<Start, NoMemory>
+    ensures { IfOk result (λ start. SpellsMemory start) }
+{
+    let mut start = plain_start(alloc)?;
+    start.global = StartGlobal {
+        limit: 4,
+        pin: NEW_PIN,
+    };
+    Ok(start)
+}
+
+fn lost_at(write: u64, how: Leaves) -> Loss
     ensures { result.write ≡ write }
 {
-    Loss { write, leaves }
+    Loss { write, how }
 }
 
 // A store with these losses to come, of which nothing is told.
 fn untold_store(alloc: Global, start: &Start, losses: &[Loss]) -> Result<MemoryStore, Fail>
     requires spells { SpellsMemory start.now }
     requires rises { RisesFrom 0 (write_numbers losses.now) }
-    ensures on { IfOk result (λ store. (⟦<MemoryStore as Store>⟧.state store).on ≡ true) }
+    ensures on { IfOk result (λ store. (⟦<MemoryStore as Store>⟧.state store).power.on ≡ true) }
     ensures untold { IfOk result (λ store. (⟦<MemoryStore as Store>⟧.state store).mem ≡ None) }
 {
     let store = MemoryStore::new(alloc, start, losses.to_vec(alloc)?)?;
@@ -72,10 +85,10 @@ enum Call<'a> {
 // The power is off behind a call that is lost.
 #[tactic(auto, unfolding(piv_model::specs::Forms::is_pin))]
 fn made<S: Store>(store: &mut S, call: &Call<'_>) -> Result<(), PutFault>
-    requires on { (S.state store.old).on ≡ true }
+    requires on { (S.state store.old).power.on ≡ true }
     requires untold { (S.state store.old).mem ≡ None }
-    ensures on { (result ≡ Err PutFault.Lost → ⊥) → (S.state store.new).on ≡ true }
-    ensures off { result ≡ Err PutFault.Lost → (S.state store.new).on ≡ false }
+    ensures on { (result ≡ Err PutFault.Lost → ⊥) → (S.state store.new).power.on ≡ true }
+    ensures off { result ≡ Err PutFault.Lost → (S.state store.new).power.on ≡ false }
     ensures untold { (S.state store.new).mem ≡ None }
 {
     match *call {
@@ -101,9 +114,9 @@ fn expect_call<S: Store>(
     want: Result<(), PutFault>,
     losses: u64,
 )
-    requires on { (S.state store.old).on ≡ true }
+    requires on { (S.state store.old).power.on ≡ true }
     requires untold { (S.state store.old).mem ≡ None }
-    ensures on { (S.state store.new).on ≡ true }
+    ensures on { (S.state store.new).power.on ≡ true }
     ensures untold { (S.state store.new).mem ≡ None }
 {
     let answer = made(store, call);
@@ -124,9 +137,9 @@ fn expect_comparison<S: Store>(
     candidate: &[u8; 8],
     want: bool,
 )
-    requires on { (S.state store.old).on ≡ true }
+    requires on { (S.state store.old).power.on ≡ true }
     requires untold { (S.state store.old).mem ≡ None }
-    ensures on { (S.state store.new).on ≡ true }
+    ensures on { (S.state store.new).power.on ≡ true }
     ensures untold { (S.state store.new).mem ≡ None }
 {
     match store.spend(r) {
@@ -160,9 +173,9 @@ fn expect_held<S: Store>(
     call: &Call<'_>,
     want: &Held<'_>,
 )
-    requires on { (S.state store.old).on ≡ true }
+    requires on { (S.state store.old).power.on ≡ true }
     requires untold { (S.state store.old).mem ≡ None }
-    ensures on { (S.state store.new).on ≡ true }
+    ensures on { (S.state store.new).power.on ≡ true }
     ensures untold { (S.state store.new).mem ≡ None }
 {
     let tries = [store.tries(RefId::Pin), store.tries(RefId::Puk)];
@@ -173,7 +186,7 @@ fn expect_held<S: Store>(
 
 // Whether `fill` gives this value, and `same` knows it from the values that are one byte shorter or longer.
 fn holds<S: Store>(alloc: Global, store: &S, id: ObjectId, value: &[u8]) -> Result<bool, Fail>
-    requires { (S.state store.now).on ≡ true }
+    requires { (S.state store.now).power.on ≡ true }
 {
     let mut filled = vec![in alloc; 0; store.length(id)]?;
     store.fill(id, &mut filled);
@@ -190,7 +203,7 @@ fn holds<S: Store>(alloc: Global, store: &S, id: ObjectId, value: &[u8]) -> Resu
 
 // The plain card, with no losses to come.
 fn plain_store(alloc: Global, is_told: bool) -> Result<MemoryStore, Fail>
-    ensures { IfOk result (λ store. (⟦<MemoryStore as Store>⟧.state store).on ≡ true) }
+    ensures { IfOk result (λ store. (⟦<MemoryStore as Store>⟧.state store).power.on ≡ true) }
 {
     let store = MemoryStore::new(alloc, &plain_start(alloc)?, Vec::new(alloc))?;
     if is_told {
@@ -226,6 +239,17 @@ fn a_plain_card_has_its_references_and_objects(rt: HostRuntime) -> Result<(), Fa
             assert!(rt; holds(alloc, &store, object(tag)?, value)?, "{tag:?}");
         }
     }
+    Ok(())
+}
+
+#[test]
+fn a_start_with_a_global_pin_makes_a_store_that_has_it(rt: HostRuntime) -> Result<(), Fail> {
+    let alloc = rt.alloc();
+    let store = MemoryStore::new(alloc, &global_start(alloc)?, Vec::new(alloc))?;
+    assert!(rt; store.has(RefId::GlobalPin));
+    let store = store.untold();
+    assert_eq!(rt; store.tries(RefId::GlobalPin), 4);
+    assert_eq!(rt; store.tries(RefId::Pin), 3);
     Ok(())
 }
 
@@ -306,9 +330,9 @@ fn expect_put<S: Store>(
     want: Result<(), PutFault>,
     after: &[u8],
 ) -> Result<(), Fail>
-    requires on { (S.state store.old).on ≡ true }
+    requires on { (S.state store.old).power.on ≡ true }
     requires untold { (S.state store.old).mem ≡ None }
-    ensures on { (S.state store.new).on ≡ true }
+    ensures on { (S.state store.new).power.on ≡ true }
     ensures untold { (S.state store.new).mem ≡ None }
 {
     let id = object(&[0x5F, 0xC1, 0x05])?;
@@ -353,7 +377,7 @@ fn spent_store(
     made: u8,
     leaves: Leaves,
 ) -> Result<MemoryStore, Fail>
-    ensures on { IfOk result (λ store. (⟦<MemoryStore as Store>⟧.state store).on ≡ true) }
+    ensures on { IfOk result (λ store. (⟦<MemoryStore as Store>⟧.state store).power.on ≡ true) }
     ensures untold { IfOk result (λ store. (⟦<MemoryStore as Store>⟧.state store).mem ≡ None) }
 {
     let losses = [lost_at(u64::from(made) + 5, leaves)];

@@ -2,11 +2,9 @@
 ghost use Rattle.std.specs.Prelude.{◌≡◌, ◌≤◌, length, IfOk};
 
 use piv_model::NoMemory;
+use piv_model::limits::LONGEST_OBJECT;
 use std::alloc::Global;
 use std::marker::Model;
-
-/// The most bytes of a value.
-pub(crate) const LONGEST: usize = 16_384;
 
 #[derive(Drop)]
 pub(crate) struct Value {
@@ -29,9 +27,7 @@ impl Value {
         requires { length bytes.now ≤ 16384 }
         ensures { IfOk result (λ value. value ≡ bytes.now) }
     {
-        let Ok(mut room) = Vec::with_capacity(alloc, LONGEST) else {
-            return Err(NoMemory);
-        };
+        let mut room = Vec::with_capacity(alloc, LONGEST_OBJECT)?;
         room.extend_from_slice(bytes).unwrap();
         Ok(Value { bytes: room })
     }

@@ -1,5 +1,4 @@
 pub mod Row
-pub mod Counting
 pub mod Tearing
 pub mod Losing
 pub mod Written

@@ -2,7 +2,8 @@
 use Rattle.std.proofs.Common.{◌≡◌, ℕ, ◌+◌, ◌≤◌, false, List, length, Some, None, IfSome, refl, ap, sym, ◌∙◌, arith}
 use Rattle.std.specs.declared.option.Option.{Option}
 use Rattle.std.specs.Option.{option_map}
-use Rattle.loss_words.specs.Due.{is_due, due_after}
+use Rattle.power_loss.specs.Due.{is_due, due_after}
+use Rattle.power_loss.specs.Power.{Power, switched_off}
 use Rattle.nvm_device.specs.declared.loss.How.{How}
 use Rattle.nvm_device.specs.Bytes.{bytes_at, overwrite}
 use Rattle.nvm_device.specs.Device.{DeviceState, written}
@@ -21,26 +22,28 @@ as_left : (how : How) (place : ℕ) (bytes : List ℕ) (left : List ℕ → List
 as_left how place bytes left None leaves = refl
 as_left how place bytes left (Some row) leaves = ap Some (ap (overwrite row place) (sym (leaves (bytes_at row place (length bytes)))))
 
-pub leaves_before : (how : How) (place : ℕ) (bytes : List ℕ) (s : DeviceState) → ((was : List ℕ) → left_by how was bytes ≡ was) → place + length bytes ≤ s.size → IfSome s.bytes (λ row. length row ≡ s.size) → LeavesAsPlanned how place bytes s (record s { on = false })
+pub leaves_before : (how : How) (place : ℕ) (bytes : List ℕ) (s : DeviceState) → ((was : List ℕ) → left_by how was bytes ≡ was) → place + length bytes ≤ s.size → IfSome s.bytes (λ row. length row ≡ s.size) → LeavesAsPlanned how place bytes s (record s { power = switched_off s.power })
 leaves_before how place bytes s leaves within row_size = record {
+  size = refl;
   row = same_row s.bytes place (length bytes) s.size within row_size ∙ as_left how place bytes (λ was. was) s.bytes leaves;
-  others = refl;
+  power = refl;
   none_due = (λ none. none, λ none. none);
 }
 
-pub leaves_torn : (how : How) (pattern : List ℕ) (place : ℕ) (bytes : List ℕ) (s t : DeviceState) → ((was : List ℕ) → left_by how was bytes ≡ repeated pattern (length bytes)) → Tore place (length bytes) pattern s t → LeavesAsPlanned how place bytes s (record t { on = false })
+pub leaves_torn : (how : How) (pattern : List ℕ) (place : ℕ) (bytes : List ℕ) (s t : DeviceState) → ((was : List ℕ) → left_by how was bytes ≡ repeated pattern (length bytes)) → Tore place (length bytes) pattern s t → LeavesAsPlanned how place bytes s (record t { power = switched_off t.power })
 leaves_torn how pattern place bytes s t leaves tore = record {
+  size = tore.size;
   row = tore.row ∙ as_left how place bytes (λ was. repeated pattern (length bytes)) s.bytes leaves;
-  others = ap (λ (v : DeviceState). record v { on = false }) tore.same;
+  power = ap (λ (p : Power). switched_off p) tore.power;
   none_due = (tore.forth, tore.back);
 }
 
-pub leaves_after : (how : How) (place : ℕ) (bytes : List ℕ) (s t : DeviceState) → ((was : List ℕ) → left_by how was bytes ≡ bytes) → t ≡ written 1 place bytes s → IfSome s.due (λ due. is_due 1 due ≡ false) → LeavesAsPlanned how place bytes s (record t { on = false })
+pub leaves_after : (how : How) (place : ℕ) (bytes : List ℕ) (s t : DeviceState) → ((was : List ℕ) → left_by how was bytes ≡ bytes) → t ≡ written 1 place bytes s → IfSome s.power.due (λ due. is_due 1 due ≡ false) → LeavesAsPlanned how place bytes s (record t { power = switched_off t.power })
 leaves_after how place bytes s t leaves is kept =
-    let row = ap (λ (v : DeviceState). v.bytes) is in
-    let due = ap (λ (v : DeviceState). v.due) is in
+    let due = ap (λ (v : DeviceState). v.power.due) is in
     record {
-      row = row ∙ as_left how place bytes (λ was. bytes) s.bytes leaves;
-      others = ap (λ (v : DeviceState). record v { on = false }) is ∙ (λ j. record s { bytes = sym row j; on = false; due = sym due j });
-      none_due = (λ none. due ∙ ap (option_map (due_after 1)) none, λ none. still_none s.due kept (sym due ∙ none));
+      size = ap (λ (v : DeviceState). v.size) is;
+      row = ap (λ (v : DeviceState). v.bytes) is ∙ as_left how place bytes (λ was. bytes) s.bytes leaves;
+      power = ap (λ (v : DeviceState). switched_off v.power) is ∙ (λ j. record s.power { on = false; due = sym due j });
+      none_due = (λ none. due ∙ ap (option_map (due_after 1)) none, λ none. still_none s.power.due kept (sym due ∙ none));
     }

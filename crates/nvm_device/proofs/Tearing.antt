@@ -4,7 +4,8 @@ use Rattle.std.proofs.lemmas.List.{length-replicate}
 use Rattle.std.proofs.lemmas.List.FromFn.{map-range_with_len_more, length-map-range_with_len}
 use Rattle.std.specs.declared.option.Option.{Option}
 use Rattle.std.specs.Option.{option_map}
-use Rattle.loss_words.specs.Due.{is_due, due_after, after_writes}
+use Rattle.power_loss.specs.Due.{is_due, due_after, after_writes}
+use Rattle.power_loss.specs.Power.{Power, power_after}
 use Rattle.nvm_device.specs.Bytes.{bytes_at, overwrite}
 use Rattle.nvm_device.specs.Device.{DeviceState, written, Torn}
 use Rattle.nvm_device.specs.Losses.{repeated}
@@ -43,7 +44,7 @@ repeated_more pattern n = map-range_with_len_more (λ i. get_or pattern (i % len
 
 pub tore_none : (place : ℕ) (pattern : List ℕ) (s : DeviceState) → Tore place 0 pattern s s
 unfolding repeated
-tore_none place pattern s = record { row = by_told s.bytes; same = refl; forth = λ none. none; back = λ none. none }
+tore_none place pattern s = record { size = refl; row = by_told s.bytes; power = refl; forth = λ none. none; back = λ none. none }
   where
     by_told : (told : Option (List ℕ)) → told ≡ option_map (λ row. overwrite row place []) told
     by_told None = refl
@@ -68,33 +69,39 @@ padded (Some row) place size a at n is within row_size =
     ap Some (sym (ap (overwrite (overwrite row place a) at) (sym kept) ∙ overwrite_same (overwrite row place a) at n (omega arith)) ∙ overwrite_more row place a (bytes_at row at n) at is (omega arith))
 
 module _ (place i : ℕ) (pattern : List ℕ) (s t : DeviceState) (tore : Tore place i pattern s t) (row_size : IfSome s.bytes (λ row. length row ≡ s.size)) where
-  pub tore_more : (u : DeviceState) → u ≡ written 1 (place + i) (get_or pattern (i % length pattern) 0 ∷ []) t → place + (i + 1) ≤ s.size → IfSome t.due (λ due. is_due 1 due ≡ false) → Tore place (i + 1) pattern s u
+  pub tore_more : (u : DeviceState) → u ≡ written 1 (place + i) (get_or pattern (i % length pattern) 0 ∷ []) t → place + (i + 1) ≤ s.size → IfSome t.power.due (λ due. is_due 1 due ≡ false) → Tore place (i + 1) pattern s u
   tore_more u is within kept =
       let bytes = ap (λ (v : DeviceState). v.bytes) is in
-      let due = ap (λ (v : DeviceState). v.due) is in
+      let due = ap (λ (v : DeviceState). v.power.due) is in
       let one = get_or pattern (i % length pattern) 0 ∷ [] in
       let here : place + i ≡ place + length (repeated pattern i) = omega (arith, length-repeated pattern i) in
       record {
+        size = ap (λ (v : DeviceState). v.size) is ∙ tore.size;
         row = bytes ∙ ap (option_map (λ row. overwrite row (place + i) one)) tore.row ∙ joined s.bytes place s.size (place + i) (repeated pattern i) one (repeated pattern (i + 1)) here (omega arith) row_size (repeated_more pattern i);
-        same = is ∙ ap (λ (v : DeviceState). written 1 (place + i) one v) tore.same ∙ (λ j. record s { bytes = sym bytes j; due = sym due j });
+        power = ap (λ (v : DeviceState). v.power) is ∙ ap (λ (p : Power). power_after 1 p) tore.power ∙ (λ j. record s.power { due = sym due j });
         forth = λ none. due ∙ ap (option_map (due_after 1)) (tore.forth none);
-        back = λ none. tore.back (still_none t.due kept (sym due ∙ none));
+        back = λ none. tore.back (still_none t.power.due kept (sym due ∙ none));
       }
 
-  pub tore_itself : (n : ℕ) (u : DeviceState) → i < n → place + n ≤ s.size → Torn (place + i) 1 t u → IfSome t.due (λ due. is_due 1 due ≡ true) → LeavesAny place n s u
+  pub tore_itself : (n : ℕ) (u : DeviceState) → i < n → place + n ≤ s.size → Torn (place + i) 1 t u → IfSome t.power.due (λ due. is_due 1 due ≡ true) → LeavesAny place n s u
   tore_itself n u below within lost now =
-      let bytes = ap (λ (v : DeviceState). v.bytes) lost.is in
-      let due = ap (λ (v : DeviceState). v.due) lost.is in
+      let left = lost.left in
+      let due = ap (λ (p : Power). p.due) lost.power in
       let front = repeated pattern i in
       let rest = part s.bytes (place + (i + 1)) (n - (i + 1)) in
       let here : place + i ≡ place + length front = omega (arith, length-repeated pattern i) in
       let rest_size = length-part s.bytes (place + (i + 1)) (n - (i + 1)) s.size (omega arith) row_size in
       record {
-        torn = (front ++ lost.torn) ++ rest;
-        same_size = omega (arith, length-append (front ++ lost.torn) rest, length-append front lost.torn, length-repeated pattern i, lost.same_size, rest_size);
-        row = bytes ∙ ap (option_map (λ row. overwrite row (place + i) lost.torn)) tore.row ∙ joined s.bytes place s.size (place + i) front lost.torn (front ++ lost.torn) here (omega (arith, lost.same_size)) row_size refl
-            ∙ padded s.bytes place s.size (front ++ lost.torn) (place + (i + 1)) (n - (i + 1)) (omega (arith, length-append front lost.torn, length-repeated pattern i, lost.same_size)) (omega arith) row_size;
-        rose = rw (← ap (λ (v : DeviceState). v.losses) tore.same) lost.rose;
-        others = lost.is ∙ ap (λ (v : DeviceState). record v { bytes = option_map (λ row. overwrite row (place + i) lost.torn) t.bytes; on = false; losses = u.losses; due = option_map (due_after 1) t.due }) tore.same ∙ (λ j. record s { bytes = sym bytes j; on = false; losses = u.losses; due = sym due j });
+        lost = record {
+          left = record {
+            torn = (front ++ left.torn) ++ rest;
+            same_size = omega (arith, length-append (front ++ left.torn) rest, length-append front left.torn, length-repeated pattern i, left.same_size, rest_size);
+            size = left.size ∙ tore.size;
+            bytes = left.bytes ∙ ap (option_map (λ row. overwrite row (place + i) left.torn)) tore.row ∙ joined s.bytes place s.size (place + i) front left.torn (front ++ left.torn) here (omega (arith, left.same_size)) row_size refl
+                ∙ padded s.bytes place s.size (front ++ left.torn) (place + (i + 1)) (n - (i + 1)) (omega (arith, length-append front left.torn, length-repeated pattern i, left.same_size)) (omega arith) row_size;
+          };
+          rose = rw (← ap (λ (p : Power). p.losses) tore.power) lost.rose;
+          power = lost.power ∙ ap (λ (p : Power). record p { on = false; losses = u.power.losses; due = option_map (due_after 1) t.power.due }) tore.power ∙ (λ j. record s.power { on = false; losses = u.power.losses; due = sym due j });
+        };
         was_due = λ none. let told = tore.forth none in let both : false ≡ true = rw told at now in cc;
       }

@@ -2,15 +2,17 @@
 use Rattle.std.proofs.Common.{◌≡◌, ◌↔◌, ℕ, ◌+◌, ◌-◌, ◌^◌, ◌≤◌, min, Bool, true, false, List, [], ◌∷◌, length, Some, None, IfSome, refl, ap, sym, ◌∙◌, arith}
 use Rattle.std.specs.declared.option.Option.{Option}
 use Rattle.std.specs.Option.{option_map}
-use Rattle.loss_words.specs.Due.{RisesFrom, is_due, due_after}
-use Rattle.loss_words.specs.Told.{Rose}
+use Rattle.power_loss.specs.Due.{is_due, due_after}
+use Rattle.power_loss.specs.Told.{Rose}
+use Rattle.power_loss.specs.Power.{Power}
 use Rattle.nvm_device.specs.declared.loss.How.{How}
 use Rattle.nvm_device.specs.declared.loss.How.TheVariants.{Before, Torn as TornBy, After}
 use Rattle.nvm_device.specs.Bytes.{bytes_at, overwrite}
 use Rattle.nvm_device.specs.Device.{DeviceState, written, Torn}
-use Rattle.nvm_device.specs.Losses.{PlanState, write_numbers, planned_now, one_write_on, left_by}
+use Rattle.power_loss.specs.Plans.{PlanState, write_numbers, planned_in, plan_after}
+use Rattle.power_loss.proofs.PlanLaws.{numbers_after, length_planned, length_kept}
+use Rattle.nvm_device.specs.Losses.{left_by}
 use Rattle.nvm_device.specs.UnderPlan.{due_under, under_plan, LeavesAsPlanned, LeavesAny}
-use Rattle.nvm_device.proofs.Counting.{numbers_after, rises_after, length_after, length_planned, length_kept}
 use Rattle.nvm_device.proofs.Tearing.{part, length-part, length-repeated, still_none}
 
 not_told : (due : List ℕ) (told : Option (List ℕ)) → (told ≡ Some [] → ⊥) → due_under false due told ≡ None
@@ -42,60 +44,57 @@ unfolding torn_of part
 row_of how None place bytes = refl
 row_of how (Some row) place bytes = refl
 
--- what a device under a plan keeps
-pub kept_after : (plan now : PlanState) → now ≡ one_write_on plan → RisesFrom 0 (write_numbers plan.to_come) → RisesFrom 0 (write_numbers now.to_come)
-kept_after plan now is rises = rw is (rises_after plan.to_come rises)
+same_power : (a b : Power) → a.on ≡ b.on → a.losses ≡ b.losses → a.span ≡ b.span → a.due ≡ b.due → a ≡ b
+same_power a b on losses span due = λ j. record { on = on j; losses = losses j; span = span j; due = due j }
 
-pub within_after : (plan now : PlanState) → now ≡ one_write_on plan → length plan.to_come ≤ plan.span → length now.to_come ≤ now.span
-within_after plan now is within = rw is (let fewer = length_after plan.to_come in omega arith)
-
-same_state : (a b : DeviceState) → a.size ≡ b.size → a.on ≡ b.on → a.losses ≡ b.losses → a.span ≡ b.span → a.bytes ≡ b.bytes → a.due ≡ b.due → a ≡ b
-same_state a b size on losses span bytes due = λ j. record { size = size j; on = on j; losses = losses j; span = span j; bytes = bytes j; due = due j }
+same_state : (a b : DeviceState) → a.size ≡ b.size → a.bytes ≡ b.bytes → a.power ≡ b.power → a ≡ b
+same_state a b size bytes power = λ j. record { size = size j; bytes = bytes j; power = power j }
 
 rose_planned : (a b span n m : ℕ) → a ≤ b → n ≤ span → n ≡ m + 1 → Rose (min (a + (span - n)) (2 ^ 64 - 1)) (min (b + (span - m)) (2 ^ 64 - 1))
 rose_planned a b span n m le within more = (omega arith, omega arith)
 
-module _ (plan now : PlanState) (spoiled : Bool) (s t : DeviceState) (place : ℕ) (bytes : List ℕ) (is : now ≡ one_write_on plan) (rises : RisesFrom 0 (write_numbers plan.to_come)) (within : length plan.to_come ≤ plan.span) where
+module _ (plan now : PlanState How) (spoiled : Bool) (s t : DeviceState) (place : ℕ) (bytes : List ℕ) (is : now ≡ plan_after 1 plan) (within : length plan.to_come ≤ plan.span) where
   span_same : now.span ≡ plan.span
-  span_same = ap (λ (p : PlanState). p.span) is
+  span_same = ap (λ (p : PlanState How). p.span) is
 
   due_now : write_numbers now.to_come ≡ due_after 1 (write_numbers plan.to_come)
-  due_now = ap (λ (p : PlanState). write_numbers p.to_come) is ∙ numbers_after plan.to_come rises
+  due_now = ap (λ (p : PlanState How). write_numbers p.to_come) is ∙ numbers_after 1 plan.to_come
 
-  one_less : (how : How) → planned_now plan.to_come ≡ Some how → length plan.to_come ≡ length now.to_come + 1
-  one_less how planned = rw is (length_planned plan.to_come how planned)
+  one_less : (how : How) → planned_in 1 plan.to_come ≡ Some how → length plan.to_come ≡ length now.to_come + 1
+  one_less how planned = rw is (length_planned 1 plan.to_come how planned)
 
-  as_many : planned_now plan.to_come ≡ None → now.span - length now.to_come ≡ plan.span - length plan.to_come
-  as_many other = rw is (ap (λ n. plan.span - n) (length_kept plan.to_come other))
+  as_many : planned_in 1 plan.to_come ≡ None → now.span - length now.to_come ≡ plan.span - length plan.to_come
+  as_many other = rw is (ap (λ n. plan.span - n) (length_kept 1 plan.to_come other))
 
-  planned_rose : (how : How) → planned_now plan.to_come ≡ Some how → s.losses ≤ t.losses → Rose (min (s.losses + (plan.span - length plan.to_come)) (2 ^ 64 - 1)) (min (t.losses + (now.span - length now.to_come)) (2 ^ 64 - 1))
-  planned_rose how planned le = rw span_same (rose_planned s.losses t.losses plan.span (length plan.to_come) (length now.to_come) le within (one_less how planned))
+  planned_rose : (how : How) → planned_in 1 plan.to_come ≡ Some how → s.power.losses ≤ t.power.losses → Rose (min (s.power.losses + (plan.span - length plan.to_come)) (2 ^ 64 - 1)) (min (t.power.losses + (now.span - length now.to_come)) (2 ^ 64 - 1))
+  planned_rose how planned le = rw span_same (rose_planned s.power.losses t.power.losses plan.span (length plan.to_come) (length now.to_come) le within (one_less how planned))
 
   -- the plan's loss alone
-  pub lost_as_planned : (how : How) → planned_now plan.to_come ≡ Some how → LeavesAsPlanned how place bytes s t → place + length bytes ≤ s.size → IfSome s.bytes (λ row. length row ≡ s.size)
+  pub lost_as_planned : (how : How) → planned_in 1 plan.to_come ≡ Some how → LeavesAsPlanned how place bytes s t → place + length bytes ≤ s.size → IfSome s.bytes (λ row. length row ≡ s.size)
       → Torn place (length bytes) (under_plan plan record { state = s; spoiled = spoiled }) (under_plan now record { state = t; spoiled = spoiled })
   lost_as_planned how planned leaves fits row_size = record {
-    torn = torn_of how s.bytes place bytes;
-    same_size = length-torn_of how s.bytes place bytes s.size fits row_size;
-    rose = planned_rose how planned (omega (arith, ap (λ (v : DeviceState). v.losses) leaves.others));
-    is = same_state _ _ (ap (λ (v : DeviceState). v.size) leaves.others) (ap (λ (v : DeviceState). v.on) leaves.others) refl span_same (leaves.row ∙ row_of how s.bytes place bytes)
-        (due_kept spoiled (write_numbers plan.to_come) (write_numbers now.to_come) s.due t.due due_now leaves.none_due);
+    left = record {
+      torn = torn_of how s.bytes place bytes;
+      same_size = length-torn_of how s.bytes place bytes s.size fits row_size;
+      size = leaves.size;
+      bytes = leaves.row ∙ row_of how s.bytes place bytes;
+    };
+    rose = planned_rose how planned (omega (arith, ap (λ (p : Power). p.losses) leaves.power));
+    power = same_power _ _ (ap (λ (p : Power). p.on) leaves.power) refl span_same (due_kept spoiled (write_numbers plan.to_come) (write_numbers now.to_come) s.power.due t.power.due due_now leaves.none_due);
   }
 
   -- with one of the inner device too
-  pub lost_both : (how : How) → planned_now plan.to_come ≡ Some how → LeavesAny place (length bytes) s t → Torn place (length bytes) (under_plan plan record { state = s; spoiled = spoiled }) (under_plan now record { state = t; spoiled = true })
+  pub lost_both : (how : How) → planned_in 1 plan.to_come ≡ Some how → LeavesAny place (length bytes) s t → Torn place (length bytes) (under_plan plan record { state = s; spoiled = spoiled }) (under_plan now record { state = t; spoiled = true })
   lost_both how planned leaves = record {
-    torn = leaves.torn;
-    same_size = leaves.same_size;
-    rose = planned_rose how planned leaves.rose.0;
-    is = same_state _ _ (ap (λ (v : DeviceState). v.size) leaves.others) (ap (λ (v : DeviceState). v.on) leaves.others) refl span_same leaves.row
-        (due_lost spoiled (write_numbers plan.to_come) s.due leaves.was_due);
+    left = let left = leaves.lost.left in record { torn = left.torn; same_size = left.same_size; size = left.size; bytes = left.bytes };
+    rose = planned_rose how planned leaves.lost.rose.0;
+    power = same_power _ _ (ap (λ (p : Power). p.on) leaves.lost.power) refl span_same (due_lost spoiled (write_numbers plan.to_come) s.power.due leaves.was_due);
   }
 
   -- no loss
-  pub not_lost : planned_now plan.to_come ≡ None → t ≡ written 1 place bytes s → IfSome s.due (λ due. is_due 1 due ≡ false) → under_plan now record { state = t; spoiled = spoiled } ≡ written 1 place bytes (under_plan plan record { state = s; spoiled = spoiled })
+  pub not_lost : planned_in 1 plan.to_come ≡ None → t ≡ written 1 place bytes s → IfSome s.power.due (λ due. is_due 1 due ≡ false) → under_plan now record { state = t; spoiled = spoiled } ≡ written 1 place bytes (under_plan plan record { state = s; spoiled = spoiled })
   not_lost other written_is kept =
-      let due = ap (λ (v : DeviceState). v.due) written_is in
-      same_state _ _ (ap (λ (v : DeviceState). v.size) written_is) (ap (λ (v : DeviceState). v.on) written_is)
-      (λ j. min ((written_is j).losses + as_many other j) (2 ^ 64 - 1)) span_same (ap (λ (v : DeviceState). v.bytes) written_is)
-      (due_kept spoiled (write_numbers plan.to_come) (write_numbers now.to_come) s.due t.due due_now (λ none. due ∙ ap (option_map (due_after 1)) none, λ none. still_none s.due kept (sym due ∙ none)))
+      let due = ap (λ (v : DeviceState). v.power.due) written_is in
+      same_state _ _ (ap (λ (v : DeviceState). v.size) written_is) (ap (λ (v : DeviceState). v.bytes) written_is)
+      (same_power _ _ (ap (λ (v : DeviceState). v.power.on) written_is) (λ j. min ((written_is j).power.losses + as_many other j) (2 ^ 64 - 1)) span_same
+      (due_kept spoiled (write_numbers plan.to_come) (write_numbers now.to_come) s.power.due t.power.due due_now (λ none. due ∙ ap (option_map (due_after 1)) none, λ none. still_none s.power.due kept (sym due ∙ none))))

@@ -1,7 +1,8 @@
 -- What a device under a plan shows of itself.
 use Rattle.nvm_device.specs.declared.fused.Fused.{Fused}
 use Rattle.nvm_device.specs.Device.{DeviceState}
-use Rattle.nvm_device.specs.Losses.{PlanState}
+use Rattle.power_loss.specs.Plans.{PlanState}
+use Rattle.nvm_device.specs.declared.loss.How.{How}
 use Rattle.nvm_device.specs.UnderPlan.{Below}
 
 -- the device that it passes writes on to
@@ -9,7 +10,7 @@ abbrev pub inner_of : {N : Type 0} → Fused N → N
 inner_of f = f.inner
 
 -- the plan, from the next write on
-abbrev pub plan_of : {N : Type 0} → Fused N → PlanState
+abbrev pub plan_of : {N : Type 0} → Fused N → PlanState How
 plan_of f = f.plan
 
 -- its state, and whether it has lost a write by itself

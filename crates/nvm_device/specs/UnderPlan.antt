@@ -5,9 +5,10 @@ use Rattle.std.specs.declared.option.Option.{Option}
 use Rattle.std.specs.Option.{option_map}
 use Rattle.nvm_device.specs.declared.loss.How.{How}
 use Rattle.nvm_device.specs.Bytes.{bytes_at, overwrite}
-use Rattle.loss_words.specs.Told.{Rose}
-use Rattle.nvm_device.specs.Device.{DeviceState, written, off_at, Torn}
-use Rattle.nvm_device.specs.Losses.{PlanState, write_numbers, repeated, left_by}
+use Rattle.power_loss.specs.Power.{Power, PowerLost}
+use Rattle.nvm_device.specs.Device.{DeviceState, written, TornRow, Torn}
+use Rattle.power_loss.specs.Plans.{PlanState, write_numbers}
+use Rattle.nvm_device.specs.Losses.{repeated, left_by}
 
 -- The plan's numbers are told where the inner device tells that no loss of its own comes, and has
 -- lost no write by itself.
@@ -25,13 +26,22 @@ pub record Below : Type 0 where
 abbrev pub unspoiled : DeviceState → Below
 unspoiled s = record { state = s; spoiled = false }
 
--- what the device under the plan means
-abbrev pub under_plan : PlanState → Below → DeviceState
-under_plan plan below = record below.state {
-  losses = min (below.state.losses + (plan.span - length plan.to_come)) (2 ^ 64 - 1);
+-- the same with this power
+abbrev pub powered : Power → Below → Below
+powered power below = record below { state = record below.state { power = power } }
+
+-- the power of the device under the plan
+abbrev pub power_under : PlanState How → Below → Power
+power_under plan below = let power = below.state.power in record {
+  on = power.on;
+  losses = min (power.losses + (plan.span - length plan.to_come)) (2 ^ 64 - 1);
   span = plan.span;
-  due = due_under below.spoiled (write_numbers plan.to_come) below.state.due;
+  due = due_under below.spoiled (write_numbers plan.to_come) power.due;
 }
+
+-- what the device under the plan means
+abbrev pub under_plan : PlanState How → Below → DeviceState
+under_plan plan below = record below.state { power = power_under plan below }
 
 -- the row after a lost write of these bytes
 abbrev pub left_at : How → ℕ → List ℕ → List ℕ → List ℕ
@@ -41,19 +51,16 @@ left_at how place bytes row =
 -- the inner device at a planned loss: its range holds what the plan says, and the power is off
 pub record LeavesAsPlanned (how : How) (place : ℕ) (bytes : List ℕ) (old new : DeviceState)
     : Type 0 where
+  pub size : new.size ≡ old.size
   pub row : new.bytes ≡ option_map (left_at how place bytes) old.bytes
-  pub others : new ≡ record old { bytes = new.bytes; on = false; due = new.due }
-  pub none_due : (old.due ≡ Some []) ↔ (new.due ≡ Some [])
+  pub power : new.power ≡ record old.power { on = false; due = new.power.due }
+  pub none_due : (old.power.due ≡ Some []) ↔ (new.power.due ≡ Some [])
 
 -- the inner device where it lost that write by itself too: any bytes stand in the range, and it
 -- counts a loss of its own
 pub record LeavesAny (place n : ℕ) (old new : DeviceState) : Type 0 where
-  pub torn : List ℕ
-  pub same_size : length torn ≡ n
-  pub row : new.bytes ≡ option_map (λ row. overwrite row place torn) old.bytes
-  pub rose : Rose old.losses new.losses
-  pub others : new ≡ off_at new.losses (record old { bytes = new.bytes; due = new.due })
-  pub was_due : old.due ≡ Some [] → ⊥
+  pub lost : PowerLost new.power.due (TornRow place n old new) old.power new.power
+  pub was_due : old.power.due ≡ Some [] → ⊥
 
 -- a write that the plan loses, alone or with the inner device
 abbrev pub LosesPlanned : How → ℕ → List ℕ → Below → Below → Type 0
@@ -76,7 +83,8 @@ WritesUnder None place bytes result old new = Passes place bytes result old new
 
 -- a device after so many bytes of a pattern were written, one by one
 pub record Tore (place n : ℕ) (pattern : List ℕ) (old new : DeviceState) : Type 0 where
+  pub size : new.size ≡ old.size
   pub row : new.bytes ≡ option_map (λ row. overwrite row place (repeated pattern n)) old.bytes
-  pub same : new ≡ record old { bytes = new.bytes; due = new.due }
-  pub forth : old.due ≡ Some [] → new.due ≡ Some []
-  pub back : new.due ≡ Some [] → old.due ≡ Some []
+  pub power : new.power ≡ record old.power { due = new.power.due }
+  pub forth : old.power.due ≡ Some [] → new.power.due ≡ Some []
+  pub back : new.power.due ≡ Some [] → old.power.due ≡ Some []

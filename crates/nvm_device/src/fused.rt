@@ -1,14 +1,15 @@
 // A device that loses power at planned writes.
 ghost use Rattle.std.specs.Prelude.{◌≡◌, ◌+◌, ◌<◌, ◌≤◌, true, false, length, OnOk, OnErr};
-ghost use Rattle.loss_words.specs.Due.{RisesFrom, RisesFrom-prop};
-ghost use Rattle.loss_words.specs.Told.{LostWhereDue};
+ghost use Rattle.power_loss.specs.Due.{RisesFrom, RisesFrom-prop};
+ghost use Rattle.power_loss.specs.Told.{LostWhereDue};
+ghost use Rattle.power_loss.specs.Power.{switched_off, switched_on};
 ghost use Rattle.nvm_device.specs.Device.{written, Torn};
-ghost use Rattle.nvm_device.specs.Losses.{write_numbers, whole, planned_now, one_write_on};
-ghost use Rattle.nvm_device.specs.UnderPlan.{under_plan, unspoiled, LeavesAsPlanned, LeavesAny, WritesUnder, Tore};
+ghost use Rattle.power_loss.specs.Plans.{write_numbers, whole, planned_in, plan_after};
+ghost use Rattle.nvm_device.specs.UnderPlan.{under_plan, unspoiled, powered, LeavesAsPlanned, LeavesAny, WritesUnder, Tore};
 
 use crate::loss::{How, Loss};
-use crate::plan::Plan;
 use crate::{Lost, Nvm};
+use power_loss::Plan;
 
 /// A device that loses the writes of a plan, over another device. A planned write leaves in its
 /// range what its loss says, or any bytes where the inner device loses that write by itself too.
@@ -16,7 +17,7 @@ use crate::{Lost, Nvm};
 #[derive(Drop)]
 pub struct Fused<N> {
     inner: N,
-    plan: Plan,
+    plan: Plan<How>,
     spoiled: bool,
     ghost rises: { RisesFrom 0 (write_numbers plan.to_come) } by { RisesFrom-prop 0 (write_numbers plan.to_come) },
     ghost within: { length plan.to_come ≤ plan.span },
@@ -64,7 +65,7 @@ impl<N: Nvm> Nvm for Fused<N> {
 
     ghost size_fits = { λ f. N.size_fits f.inner };
 
-    ghost due_rises = { λ f. due_under_rises f.spoiled f.plan (N.state f.inner).due f.rises f.within };
+    ghost due_rises = { λ f. due_under_rises f.spoiled f.plan (N.state f.inner).power.due f.rises f.within };
 
     fn size(&self) -> usize {
         self.inner.size()
@@ -79,29 +80,29 @@ impl<N: Nvm> Nvm for Fused<N> {
     }
 
     fn write(&mut self, place: usize, bytes: &[u8]) -> Result<(), Lost>
-        requires on { (⟦<Fused<N> as Nvm>⟧.state self.old).on ≡ true }
+        requires on { (⟦<Fused<N> as Nvm>⟧.state self.old).power.on ≡ true }
         requires range { place + length bytes.now ≤ (⟦<Fused<N> as Nvm>⟧.state self.old).size }
         requires some { 0 < length bytes.now }
         ensures ok { let state = ⟦<Fused<N> as Nvm>⟧.state in
             OnOk result (state self.new ≡ written 1 place bytes.now (state self.old)) }
         ensures lost { let state = ⟦<Fused<N> as Nvm>⟧.state in
             OnErr result (Torn place (length bytes.now) (state self.old) (state self.new)) }
-        ensures due { LostWhereDue 1 (⟦<Fused<N> as Nvm>⟧.state self.old).due result }
-        ensures planned { let planned = planned_now (plan_of self.old).to_come in
+        ensures due { LostWhereDue 1 (⟦<Fused<N> as Nvm>⟧.state self.old).power.due result }
+        ensures planned { let planned = planned_in 1 (plan_of self.old).to_come in
             let old = below_of N.state self.old in
             WritesUnder planned place bytes.now result old (below_of N.state self.new) }
-        ensures plan { plan_of self.new ≡ one_write_on (plan_of self.old) }
+        ensures plan { plan_of self.new ≡ plan_after 1 (plan_of self.old) }
     {
-        match self.plan.planned_now() {
+        match self.plan.planned_in(1) {
             Some(how) => {
                 if lose(&mut self.inner, place, bytes, how).is_err() {
                     self.spoiled = true;
                 }
-                self.plan.count_write();
+                self.plan.make(1);
                 Err(Lost)
             }
             None => {
-                self.plan.count_write();
+                self.plan.make(1);
                 match self.inner.write(place, bytes) {
                     Ok(()) => Ok(()),
                     Err(Lost) => {
@@ -115,20 +116,22 @@ impl<N: Nvm> Nvm for Fused<N> {
 
     fn cut(&mut self)
         ensures state { let state = ⟦<Fused<N> as Nvm>⟧.state in
-            state self.new ≡ record (state self.old) { on = false } }
+            let old = state self.old in
+            state self.new ≡ record old { power = switched_off old.power } }
         ensures plan { plan_of self.new ≡ plan_of self.old }
         ensures below { let old = below_of N.state self.old in
-            below_of N.state self.new ≡ record old { state = record old.state { on = false } } }
+            below_of N.state self.new ≡ powered (switched_off old.state.power) old }
     {
         self.inner.cut();
     }
 
     fn power(&mut self)
         ensures state { let state = ⟦<Fused<N> as Nvm>⟧.state in
-            state self.new ≡ record (state self.old) { on = true } }
+            let old = state self.old in
+            state self.new ≡ record old { power = switched_on old.power } }
         ensures plan { plan_of self.new ≡ plan_of self.old }
         ensures below { let old = below_of N.state self.old in
-            below_of N.state self.new ≡ record old { state = record old.state { on = true } } }
+            below_of N.state self.new ≡ powered (switched_on old.state.power) old }
     {
         self.inner.power();
     }
@@ -136,7 +139,7 @@ impl<N: Nvm> Nvm for Fused<N> {
 
 // Loses a planned write. Lost means that the device lost it by itself too.
 fn lose<N: Nvm>(inner: &mut N, place: usize, bytes: &[u8], how: &How) -> Result<(), Lost>
-    requires on { (N.state inner.old).on ≡ true }
+    requires on { (N.state inner.old).power.on ≡ true }
     requires range { place + length bytes.now ≤ (N.state inner.old).size }
     requires some { 0 < length bytes.now }
     ensures planned { let new = N.state inner.new in
@@ -154,7 +157,7 @@ fn lose<N: Nvm>(inner: &mut N, place: usize, bytes: &[u8], how: &How) -> Result<
 
 // Writes the bytes of a pattern again and again, one by one.
 fn tear<N: Nvm>(inner: &mut N, place: usize, n: usize, pattern: &[u8]) -> Result<(), Lost>
-    requires on { (N.state inner.old).on ≡ true }
+    requires on { (N.state inner.old).power.on ≡ true }
     requires range { place + n ≤ (N.state inner.old).size }
     requires some { 0 < length pattern.now }
     ensures tore { OnOk result (Tore place n pattern.now (N.state inner.old) (N.state inner.new)) }

@@ -5,7 +5,6 @@ mod device;
 mod fused;
 mod loss;
 mod memory;
-mod plan;
 #[cfg(test)]
 mod tests;
 

@@ -51,26 +51,18 @@ pub enum How {
     After,
 }
 
-/// The write of this number, counted from 1, is lost.
-#[derive(Drop)]
-pub struct Loss {
-    pub write: u64,
-    pub how: How,
-}
-
-impl Loss {
-    /// An equal loss.
-    pub fn copy(&self) -> Loss
+impl How {
+    /// An equal one.
+    pub fn copy(&self) -> How
         ensures { result ≡ self.now }
     {
-        let how = match &self.how {
+        match self {
             How::Before => How::Before,
             How::Torn(pattern) => How::Torn(Pattern::new(pattern.as_slice())),
             How::After => How::After,
-        };
-        Loss {
-            write: self.write,
-            how,
         }
     }
 }
+
+/// The write of this number, counted from 1, is lost.
+pub type Loss = power_loss::Loss<How>;

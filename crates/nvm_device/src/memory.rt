@@ -48,11 +48,8 @@ fn copy_in(row: &mut [u8], place: usize, bytes: &[u8])
 impl Nvm for MemNvm {
     ghost state = { λ m. record {
       size = length m.row.items;
-      on = m.on;
-      losses = 0;
-      span = 0;
       bytes = Some m.row.items;
-      due = Some [];
+      power = record { on = m.on; losses = 0; span = 0; due = Some [] };
     } };
 
     ghost row_size = { λ m. refl };

@@ -8,10 +8,10 @@ use std::test::Fail;
 
 // Writes, and says whether that was lost; then the power is on again.
 fn loses<N: Nvm>(nvm: &mut N, place: usize, bytes: &[u8]) -> bool
-    requires on { (N.state nvm.old).on ≡ true }
+    requires on { (N.state nvm.old).power.on ≡ true }
     requires range { place + length bytes.now ≤ (N.state nvm.old).size }
     requires some { 0 < length bytes.now }
-    ensures on { (N.state nvm.new).on ≡ true }
+    ensures on { (N.state nvm.new).power.on ≡ true }
     ensures size { (N.state nvm.new).size ≡ (N.state nvm.old).size }
 {
     match nvm.write(place, bytes) {
@@ -26,10 +26,10 @@ fn loses<N: Nvm>(nvm: &mut N, place: usize, bytes: &[u8]) -> bool
 // Writes this byte to the place before its own number. It says whether that is to be lost, and how
 // many losses are counted then.
 fn expect_write<N: Nvm>(rt: &impl Abort, nvm: &mut N, byte: u8, is_lost: bool, losses: u64)
-    requires on { (N.state nvm.old).on ≡ true }
+    requires on { (N.state nvm.old).power.on ≡ true }
     requires some { 0 < byte }
     requires range { byte ≤ (N.state nvm.old).size }
-    ensures on { (N.state nvm.new).on ≡ true }
+    ensures on { (N.state nvm.new).power.on ≡ true }
     ensures size { (N.state nvm.new).size ≡ (N.state nvm.old).size }
 {
     assert_eq!(rt;
@@ -41,7 +41,7 @@ fn expect_write<N: Nvm>(rt: &impl Abort, nvm: &mut N, byte: u8, is_lost: bool, l
 }
 
 fn first_eight<N: Nvm>(nvm: &N) -> [u8; 8]
-    requires on { (N.state nvm.now).on ≡ true }
+    requires on { (N.state nvm.now).power.on ≡ true }
     requires size { 8 ≤ (N.state nvm.now).size }
 {
     let mut row = [0; 8];
@@ -176,11 +176,8 @@ struct Worn {
 impl Nvm for Worn {
     ghost state = { λ w. record {
       size = 8;
-      on = w.on;
-      losses = 2 ^ 64 - 1;
-      span = 0;
       bytes = None;
-      due = None;
+      power = record { on = w.on; losses = 2 ^ 64 - 1; span = 0; due = None };
     } };
 
     ghost row_size = { λ w. tt };
@@ -227,7 +224,7 @@ fn losses_stand_still_at_the_last_number(rt: HostRuntime) -> Result<(), Fail> {
             on: true,
             loses: loses_itself,
         };
-        let mut nvm = Fused::new(worn, one_loss(rt.alloc(), after(1).copy())?);
+        let mut nvm = Fused::new(worn, one_loss(rt.alloc(), after(1))?);
         assert_eq!(rt; nvm.lost(), u64::MAX);
         assert!(rt; loses(&mut nvm, 0, &[7; 8]));
         assert_eq!(rt; nvm.lost(), u64::MAX);
@@ -256,4 +253,16 @@ fn devices_and_plans_move_between_threads(rt: HostRuntime) -> Result<(), Fail> {
     );
     assert_eq!(rt; moves_where_its_parameter_does(nvm).lost(), 0);
     Ok(())
+}
+
+fn shares<T: Sync>(value: &T) -> &T {
+    value
+}
+
+#[test]
+fn losses_are_shared_between_threads(rt: HostRuntime) {
+    let pattern = Pattern::new(&[1]);
+    let how = How::Torn(Pattern::new(shares(&pattern).as_slice()));
+    let loss = Loss { write: 1, how };
+    assert!(rt; matches!(shares(&shares(&loss).how), How::Torn(_)));
 }

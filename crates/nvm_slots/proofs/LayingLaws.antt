@@ -2,12 +2,14 @@
 use Rattle.std.proofs.Common.{◌≡◌, ℕ, ◌+◌, ◌≤◌, List, [], ◌∷◌, length, Some, None, IfSome, false, refl, ap, sym, ◌∙◌, subst, arith}
 use Rattle.std.specs.declared.option.Option.{Option}
 use Rattle.std.specs.Option.{option_map}
-use Rattle.loss_words.specs.Due.{due_after}
-use Rattle.loss_words.specs.Told.{Each, Rose}
-use Rattle.loss_words.proofs.EachLaws.{each_map, each_implies}
+use Rattle.power_loss.specs.Due.{due_after}
+use Rattle.power_loss.specs.Told.{Each, Rose}
+use Rattle.power_loss.specs.Power.{Power, power_after}
+use Rattle.power_loss.proofs.EachLaws.{each_map}
 use Rattle.nvm_device.specs.Bytes.{overwrite}
-use Rattle.nvm_device.specs.Device.{DeviceState, written, off_at, Torn}
+use Rattle.nvm_device.specs.Device.{DeviceState, written, Torn}
 use Rattle.nvm_device.proofs.Row.{length-overwrite, bytes_at-overwrite_below, bytes_at-overwrite}
+use Rattle.nvm_slots.proofs.KeptLaws.{leaves_implies}
 use Rattle.nvm_slots.specs.Laying.{Area, Piece, Holds, LieBelow, FrontKept, Laid, Laying, Fell}
 
 holds_below : (pieces : List Piece) (end place : ℕ) (bytes row : List ℕ) → LieBelow pieces end → end ≤ place → place + length bytes ≤ length row → Holds pieces row → Holds pieces (overwrite row place bytes)
@@ -38,7 +40,7 @@ module _ (area : Area) where
 
   -- nothing was laid
   pub laying_none : (s : DeviceState) → area.size ≤ s.size → IfSome s.bytes (λ row. length row ≡ s.size) → Laying area [] area.front s s
-  laying_none s enough size = record { bytes = by_told s.bytes size; same = refl; due = λ none. none }
+  laying_none s enough size = record { left = record { size = refl; bytes = by_told s.bytes size }; same = refl; due = λ none. none }
     where
       by_told : (told : Option (List ℕ)) → IfSome told (λ row. length row ≡ s.size) → Each (Laid area [] area.front) told told
       by_told None size = tt
@@ -46,15 +48,18 @@ module _ (area : Area) where
 
   pub laying_more : (pieces : List Piece) (end place : ℕ) (bytes : List ℕ) (s t u : DeviceState) → area.front ≤ place → place + length bytes ≤ area.size → end ≤ place → Laying area pieces end s t → u ≡ written 1 place bytes t → Laying area ((place, bytes) ∷ pieces) (place + length bytes) s u
   laying_more pieces end place bytes s t u behind within after laying is = subst (λ (u : DeviceState). Laying area ((place, bytes) ∷ pieces) (place + length bytes) s u) (sym is) (record {
-    bytes = each_map (Laid area pieces end) (Laid area ((place, bytes) ∷ pieces) (place + length bytes)) (λ row. overwrite row place bytes) (λ old row laid. laid_more pieces end place bytes old row behind within after laid) s.bytes t.bytes laying.bytes;
-    same = ap (λ (v : DeviceState). written 1 place bytes v) laying.same;
+    left = record {
+      size = laying.left.size;
+      bytes = each_map (Laid area pieces end) (Laid area ((place, bytes) ∷ pieces) (place + length bytes)) (λ row. overwrite row place bytes) (λ old row laid. laid_more pieces end place bytes old row behind within after laid) s.bytes t.bytes laying.left.bytes;
+    };
+    same = ap (λ (p : Power). power_after 1 p) laying.same;
     due = λ none. ap (option_map (due_after 1)) (laying.due none);
   })
 
   -- a later place
   pub laying_later : (pieces : List Piece) (end more : ℕ) (s t : DeviceState) → end ≤ more → Laying area pieces end s t → Laying area pieces more s t
   laying_later pieces end more s t le laying = record {
-    bytes = each_implies (λ row. Unit {0}) (Laid area pieces end) (Laid area pieces more) (λ old row any laid. record { enough = laid.enough; kept = laid.kept; below = below_more pieces end more le laid.below; holds = laid.holds }) s.bytes t.bytes (any s.bytes) laying.bytes;
+    left = leaves_implies (λ row. Unit {0}) (Laid area pieces end) (Laid area pieces more) (λ old row any laid. record { enough = laid.enough; kept = laid.kept; below = below_more pieces end more le laid.below; holds = laid.holds }) s t (any s.bytes) laying.left;
     same = laying.same;
     due = laying.due;
   }
@@ -66,13 +71,15 @@ module _ (area : Area) where
   -- a piece that was lost
   pub fell_by : (R : List ℕ → List ℕ → Type 0) (pieces : List Piece) (end place n : ℕ) (s t u : DeviceState) → ((torn old row : List ℕ) → length torn ≡ n → Laid area pieces end old row → R old (overwrite row place torn)) → Laying area pieces end s t → Torn place n t u → Fell R s u
   fell_by R pieces end place n s t u implies laying lost = record {
-    bytes = subst (λ told. Each R s.bytes told) (sym (ap (λ (v : DeviceState). v.bytes) lost.is)) (each_map (Laid area pieces end) R (λ row. overwrite row place lost.torn) (λ old row laid. implies lost.torn old row lost.same_size laid) s.bytes t.bytes laying.bytes);
-    rose = subst (λ n. Rose n u.losses) (ap (λ (v : DeviceState). v.losses) laying.same) lost.rose;
-    same =
-        let bytes = ap (λ (v : DeviceState). v.bytes) lost.is in
-        let due = ap (λ (v : DeviceState). v.due) lost.is in
-        lost.is ∙ ap (λ (v : DeviceState). off_at u.losses (written 1 place lost.torn v)) laying.same
-        ∙ (λ i. record s { bytes = sym bytes i; on = false; losses = u.losses; due = sym due i });
+    left = record {
+      size = lost.left.size ∙ laying.left.size;
+      bytes = subst (λ told. Each R s.bytes told) (sym lost.left.bytes) (each_map (Laid area pieces end) R (λ row. overwrite row place lost.left.torn) (λ old row laid. implies lost.left.torn old row lost.left.same_size laid) s.bytes t.bytes laying.left.bytes);
+    };
+    rose = subst (λ n. Rose n u.power.losses) (ap (λ (p : Power). p.losses) laying.same) lost.rose;
+    power =
+        let due = ap (λ (p : Power). p.due) lost.power in
+        lost.power ∙ ap (λ (p : Power). record p { on = false; losses = u.power.losses; due = option_map (due_after 1) t.power.due }) laying.same
+        ∙ (λ i. record s.power { on = false; losses = u.power.losses; due = sym due i });
   }
 
   pub fell_more : (pieces : List Piece) (end place n : ℕ) (s t u : DeviceState) → area.front ≤ place → place + n ≤ area.size → Laying area pieces end s t → Torn place n t u → Fell (FrontKept area) s u

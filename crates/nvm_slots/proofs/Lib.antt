@@ -1,4 +1,5 @@
 pub mod Rows
-pub mod Replacing
 pub mod KeptLaws
+pub mod Calls
+pub mod Replacing
 pub mod LayingLaws

@@ -3,12 +3,12 @@ use Rattle.std.proofs.Common.{◌≡◌, ℕ, ◌-◌, ◌<◌, ◌≤◌, ◌%�
 use Rattle.std.specs.declared.option.Option.{Option}
 use Rattle.std.specs.Option.{option_map}
 use Rattle.nvm_device.specs.Bytes.{overwrite}
-use Rattle.loss_words.specs.Due.{is_due}
-use Rattle.loss_words.specs.Told.{Rose, Each}
-use Rattle.nvm_device.specs.Device.{DeviceState, written, off_at, Torn}
+use Rattle.power_loss.specs.Due.{is_due, due_after}
+use Rattle.power_loss.specs.Told.{Rose, Each}
+use Rattle.nvm_device.specs.Device.{DeviceState, written, Torn}
 use Rattle.nvm_slots.specs.Slots.{slot_of, live, IsRecordIn, IsDisjoint, Replaced, ReplacedOrNot, Kept, Cut}
 use Rattle.nvm_slots.specs.declared.twin.Twin.{Twin}
-use Rattle.loss_words.proofs.DueLaws.{told_after-after, told_after-lost}
+use Rattle.power_loss.proofs.DueLaws.{told_after-after, told_after-lost}
 use Rattle.nvm_slots.proofs.Rows.{replaced, lost_first, lost_second}
 
 one_byte : (bytes : List ℕ) → length bytes ≡ 1 → (byte : ℕ) × (bytes ≡ byte ∷ [])
@@ -34,31 +34,34 @@ module _ (twin : Twin) (bytes : List ℕ) (size : ℕ) (within : IsRecordIn size
 
 module _ (twin : Twin) (bytes : List ℕ) (s : DeviceState) (within : IsRecordIn s.size twin) (disjoint : IsDisjoint twin) (fits : length bytes ≤ twin.size) (other : ℕ) (below : other < 2)
     (row_size : IfSome s.bytes (λ row. length row ≡ s.size)) (is_other : IfSome s.bytes (λ row. other ≡ 1 - live twin row)) where
-  pub both_written : (t u : DeviceState) → t ≡ written 1 (slot_of twin other) bytes s → u ≡ written 1 twin.selector (other ∷ []) t → IfSome s.due (λ due. is_due 1 due ≡ false) → Kept 2 (Replaced twin bytes) s u
+  pub both_written : (t u : DeviceState) → t ≡ written 1 (slot_of twin other) bytes s → u ≡ written 1 twin.selector (other ∷ []) t → IfSome s.power.due (λ due. is_due 1 due ≡ false) → Kept 2 (Replaced twin bytes) s u
   both_written t u is_t is_u kept =
       subst (λ v. Kept 2 (Replaced twin bytes) s v) (sym (is_u ∙ ap (λ v. written 1 twin.selector (other ∷ []) v) is_t)) record {
-        bytes = rows_replaced twin bytes s.size within disjoint fits other below s.bytes row_size is_other;
-        others = λ i. record s {
-          bytes = option_map (λ row. overwrite row twin.selector (other ∷ [])) (option_map (λ row. overwrite row (slot_of twin other) bytes) s.bytes);
-          due = told_after-after 1 1 s.due kept i;
-        };
+        left = record { size = refl; bytes = rows_replaced twin bytes s.size within disjoint fits other below s.bytes row_size is_other };
+        power = λ i. record s.power { due = told_after-after 1 1 s.power.due kept i };
       }
 
-  pub first_lost : (t : DeviceState) → Torn (slot_of twin other) (length bytes) s t → IfSome s.due (λ due. is_due 1 due ≡ true) → Cut 2 (ReplacedOrNot twin bytes) s t
+  pub first_lost : (t : DeviceState) → Torn (slot_of twin other) (length bytes) s t → IfSome s.power.due (λ due. is_due 1 due ≡ true) → Cut 2 (ReplacedOrNot twin bytes) s t
   first_lost t lost now = record {
-    bytes = subst (λ told. Each (ReplacedOrNot twin bytes) s.bytes told) (sym (ap (λ (v : DeviceState). v.bytes) lost.is)) (rows_lost_first twin bytes s.size within disjoint fits other below s.bytes lost.torn lost.same_size row_size is_other);
+    left = record {
+      size = lost.left.size;
+      bytes = subst (λ told. Each (ReplacedOrNot twin bytes) s.bytes told) (sym lost.left.bytes) (rows_lost_first twin bytes s.size within disjoint fits other below s.bytes lost.left.torn lost.left.same_size row_size is_other);
+    };
     rose = lost.rose;
-    others = lost.is ∙ (λ i. record s { bytes = sym (ap (λ (v : DeviceState). v.bytes) lost.is) i; on = false; losses = t.losses; due = told_after-lost 1 1 s.due now i });
+    power = lost.power ∙ (λ i. record s.power { on = false; losses = t.power.losses; due = told_after-lost 1 1 s.power.due now i });
   }
 
-  pub second_lost : (t u : DeviceState) → t ≡ written 1 (slot_of twin other) bytes s → Torn twin.selector 1 t u → IfSome s.due (λ due. is_due 1 due ≡ false) → Cut 2 (ReplacedOrNot twin bytes) s u
+  pub second_lost : (t u : DeviceState) → t ≡ written 1 (slot_of twin other) bytes s → Torn twin.selector 1 t u → IfSome s.power.due (λ due. is_due 1 due ≡ false) → Cut 2 (ReplacedOrNot twin bytes) s u
   second_lost t u is_t lost kept =
-      let one = one_byte lost.torn lost.same_size in
-      let is : u ≡ off_at u.losses (written 1 twin.selector (one.0 ∷ []) (written 1 (slot_of twin other) bytes s)) = lost.is ∙ (λ i. off_at u.losses (written 1 twin.selector (one.1 i) (is_t i))) in
+      let one = one_byte lost.left.torn lost.left.same_size in
+      let there : u.bytes ≡ option_map (λ row. overwrite row twin.selector (one.0 ∷ [])) (written 1 (slot_of twin other) bytes s).bytes = lost.left.bytes ∙ (λ i. option_map (λ row. overwrite row twin.selector (one.1 i)) (is_t i).bytes) in
       record {
-        bytes = subst (λ told. Each (ReplacedOrNot twin bytes) s.bytes told) (sym (ap (λ (v : DeviceState). v.bytes) is)) (rows_lost_second twin bytes s.size within disjoint fits other below s.bytes one.0 row_size is_other);
-        rose = subst (λ (v : DeviceState). Rose v.losses u.losses) is_t lost.rose;
-        others = is ∙ (λ i. record s { bytes = sym (ap (λ (v : DeviceState). v.bytes) is) i; on = false; losses = u.losses; due = told_after-after 1 1 s.due kept i });
+        left = record {
+          size = lost.left.size ∙ ap (λ (v : DeviceState). v.size) is_t;
+          bytes = subst (λ told. Each (ReplacedOrNot twin bytes) s.bytes told) (sym there) (rows_lost_second twin bytes s.size within disjoint fits other below s.bytes one.0 row_size is_other);
+        };
+        rose = subst (λ (v : DeviceState). Rose v.power.losses u.power.losses) is_t lost.rose;
+        power = lost.power ∙ ap (λ (v : DeviceState). record v.power { on = false; losses = u.power.losses; due = option_map (due_after 1) v.power.due }) is_t ∙ (λ i. record s.power { on = false; losses = u.power.losses; due = told_after-after 1 1 s.power.due kept i });
       }
 
 pub other_of : (told : Option (List ℕ)) (twin : Twin) (byte : ℕ) → IfSome told (λ row. byte ≡ slice_index row twin.selector) → IfSome told (λ row. 1 - byte % 2 ≡ 1 - live twin row)

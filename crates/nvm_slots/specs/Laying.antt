@@ -1,9 +1,10 @@
 -- Bytes that are laid on a device, each piece behind those before it, while the bytes in front of
 -- them stand.
 use Rattle.std.specs.Prelude.{◌≡◌, ℕ, ◌+◌, ◌≤◌, List, [], ◌∷◌, length, Some, ⊤}
-use Rattle.loss_words.specs.Told.{Rose, Each}
+use Rattle.power_loss.specs.Power.{PowerLost}
 use Rattle.nvm_device.specs.Bytes.{bytes_at}
-use Rattle.nvm_device.specs.Device.{DeviceState, off_at}
+use Rattle.nvm_device.specs.Device.{DeviceState}
+use Rattle.nvm_slots.specs.Slots.{Leaves}
 
 -- bytes and the place where they stand
 abbrev pub Piece : Type 0
@@ -37,15 +38,13 @@ pub record Laid (area : Area) (pieces : List Piece) (end : ℕ) (old new : List 
 -- a device after writes of which none was lost
 pub record Laying (area : Area) (pieces : List Piece) (end : ℕ) (old new : DeviceState)
     : Type 0 where
-  pub bytes : Each (Laid area pieces end) old.bytes new.bytes
-  pub same : new ≡ record old { bytes = new.bytes; due = new.due }
-  pub due : old.due ≡ Some [] → new.due ≡ Some []
+  pub left : Leaves (Laid area pieces end) old new
+  pub same : new.power ≡ record old.power { due = new.power.due }
+  pub due : old.power.due ≡ Some [] → new.power.due ≡ Some []
 
 -- a device that lost one of them
-pub record Fell (R : List ℕ → List ℕ → Type 0) (old new : DeviceState) : Type 0 where
-  pub bytes : Each R old.bytes new.bytes
-  pub rose : Rose old.losses new.losses
-  pub same : new ≡ off_at new.losses (record old { bytes = new.bytes; due = new.due })
+abbrev pub Fell : (List ℕ → List ℕ → Type 0) → DeviceState → DeviceState → Type 0
+Fell R old new = PowerLost new.power.due (Leaves R old new) old.power new.power
 
 -- whatever was laid before, these bytes stand behind it now
 abbrev pub LaysMore : ℕ → List ℕ → DeviceState → DeviceState → Type 0

@@ -1,10 +1,9 @@
 -- A twin record, this project's own form: a selector byte and two slots, one of them live. A
 -- replacement fills the other slot and then writes the selector. So the selector names a whole
 -- record, whatever a loss of power leaves in either range.
-use Rattle.std.specs.Prelude.{◌≡◌, ◌⊎◌, ℕ, ◌+◌, ◌-◌, ◌<◌, ◌≤◌, ◌%◌, false, List, length, slice_index}
-use Rattle.std.specs.Option.{option_map}
-use Rattle.loss_words.specs.Due.{due_after}
-use Rattle.loss_words.specs.Told.{Rose, Each}
+use Rattle.std.specs.Prelude.{◌≡◌, ◌⊎◌, ℕ, ◌+◌, ◌-◌, ◌<◌, ◌≤◌, ◌%◌, List, length, slice_index}
+use Rattle.power_loss.specs.Told.{Each}
+use Rattle.power_loss.specs.Power.{power_after, LostIn}
 use Rattle.nvm_device.specs.Bytes.{bytes_at, AreApart}
 use Rattle.nvm_device.specs.Device.{DeviceState}
 use Rattle.nvm_slots.specs.declared.twin.Twin.{Twin}
@@ -62,18 +61,16 @@ pub record ReplacedOrNot (twin : Twin) (bytes old new : List ℕ) : Type 0 where
   pub which :
       (record_of twin new ≡ record_of twin old) ⊎ (live_bytes twin (length bytes) new ≡ bytes)
 
+-- a device of the same size, and a row that stands so to the one before
+pub record Leaves (R : List ℕ → List ℕ → Type 0) (old new : DeviceState) : Type 0 where
+  pub size : new.size ≡ old.size
+  pub bytes : Each R old.bytes new.bytes
+
 -- a call of n writes of which none was lost
 pub record Kept (n : ℕ) (R : List ℕ → List ℕ → Type 0) (old new : DeviceState) : Type 0 where
-  pub bytes : Each R old.bytes new.bytes
-  pub others : new ≡ record old { bytes = new.bytes; due = option_map (due_after n) old.due }
+  pub left : Leaves R old new
+  pub power : new.power ≡ power_after n old.power
 
 -- a call of n writes of which one was lost
-pub record Cut (n : ℕ) (R : List ℕ → List ℕ → Type 0) (old new : DeviceState) : Type 0 where
-  pub bytes : Each R old.bytes new.bytes
-  pub rose : Rose old.losses new.losses
-  pub others : new ≡ record old {
-    bytes = new.bytes;
-    on = false;
-    losses = new.losses;
-    due = option_map (due_after n) old.due;
-  }
+abbrev pub Cut : ℕ → (List ℕ → List ℕ → Type 0) → DeviceState → DeviceState → Type 0
+Cut n R old new = LostIn n (Leaves R old new) old.power new.power

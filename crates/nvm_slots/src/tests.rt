@@ -30,7 +30,7 @@ fn image(selector: u8) -> [u8; 24] {
 }
 
 fn device(alloc: Global, selector: u8) -> Result<MemNvm, Fail>
-    ensures on { IfOk result (λ nvm. (⟦<MemNvm as Nvm>⟧.state nvm).on ≡ true) }
+    ensures on { IfOk result (λ nvm. (⟦<MemNvm as Nvm>⟧.state nvm).power.on ≡ true) }
     ensures size { IfOk result (λ nvm. (⟦<MemNvm as Nvm>⟧.state nvm).size ≡ 24) }
 {
     let mut nvm = MemNvm::new(alloc, 24)?;
@@ -48,7 +48,7 @@ fn one_loss(alloc: Global, write: u64, how: How) -> Result<Vec<Loss>, AllocError
 }
 
 fn read<N: Nvm>(nvm: &N) -> [u8; 8]
-    requires on { (N.state nvm.now).on ≡ true }
+    requires on { (N.state nvm.now).power.on ≡ true }
     requires size { (N.state nvm.now).size ≡ 24 }
 {
     let mut out = [0; 8];
@@ -57,7 +57,7 @@ fn read<N: Nvm>(nvm: &N) -> [u8; 8]
 }
 
 fn row<N: Nvm>(nvm: &N) -> [u8; 24]
-    requires on { (N.state nvm.now).on ≡ true }
+    requires on { (N.state nvm.now).power.on ≡ true }
     requires size { (N.state nvm.now).size ≡ 24 }
 {
     let mut out = [0; 24];
@@ -67,9 +67,9 @@ fn row<N: Nvm>(nvm: &N) -> [u8; 24]
 
 // Replaces the record, and says whether that was lost; then the power is on again.
 fn loses<N: Nvm>(nvm: &mut N, bytes: [u8; 8]) -> bool
-    requires on { (N.state nvm.old).on ≡ true }
+    requires on { (N.state nvm.old).power.on ≡ true }
     requires size { (N.state nvm.old).size ≡ 24 }
-    ensures on { (N.state nvm.new).on ≡ true }
+    ensures on { (N.state nvm.new).power.on ≡ true }
     ensures size { (N.state nvm.new).size ≡ 24 }
 {
     let lost = TWIN.replace(nvm, &bytes).is_err();
@@ -119,7 +119,6 @@ fn expect_of_how(
     from_0: [u8; 8],
     from_1: [u8; 8],
 ) -> Result<(), Fail> {
-    let loss = Loss { write: 1, how };
     for (selector, old, want) in [
         (0, SLOT_0, from_0),
         (1, SLOT_1, from_1),
@@ -127,8 +126,8 @@ fn expect_of_how(
         (0xfe, SLOT_0, from_0),
         (0xff, SLOT_1, from_1),
     ] {
-        expect_after_loss(rt, alloc, selector, 1, loss.copy().how, old)?;
-        expect_after_loss(rt, alloc, selector, 2, loss.copy().how, want)?;
+        expect_after_loss(rt, alloc, selector, 1, how.copy(), old)?;
+        expect_after_loss(rt, alloc, selector, 2, how.copy(), want)?;
     }
     Ok(())
 }
@@ -228,7 +227,7 @@ fn replaces_the_record_in_the_other_slot(rt: HostRuntime) -> Result<(), Fail> {
 
 // Lays a byte and a word behind it, from place 4 of 64 on.
 fn lay_word<N: Nvm>(nvm: &mut N, place: usize, byte: u8, word: &[u8; 4]) -> Result<(), Lost>
-    requires on { (N.state nvm.old).on ≡ true }
+    requires on { (N.state nvm.old).power.on ≡ true }
     requires size { 64 ≤ (N.state nvm.old).size }
     requires behind { 4 ≤ place }
     requires within { place ≤ 32 }
@@ -237,7 +236,7 @@ fn lay_word<N: Nvm>(nvm: &mut N, place: usize, byte: u8, word: &[u8; 4]) -> Resu
         OnOk result ((pieces : List Piece) (end : ℕ) (s : DeviceState) → end ≤ place
         → Laying area pieces end s (N.state nvm.old)
         → Laying area ((place + 1, word.now) ∷ (place, byte ∷ []) ∷ pieces) (place + 5) s (N.state nvm.new)) }
-    ensures on { OnOk result ((N.state nvm.new).on ≡ true) }
+    ensures on { OnOk result ((N.state nvm.new).power.on ≡ true) }
     ensures fell { let area : Area = record { front = 4; size = 64 } in
         OnErr result ((pieces : List Piece) (end : ℕ) (s : DeviceState) → end ≤ place
         → Laying area pieces end s (N.state nvm.old) → Fell (FrontKept area) s (N.state nvm.new)) }

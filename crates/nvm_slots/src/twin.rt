@@ -1,6 +1,6 @@
 // A selector byte and two slots.
 ghost use Rattle.std.specs.Prelude.{◌≡◌, ◌<◌, ◌≤◌, length, true, slice_index, IfSome, OnOk, OnErr};
-ghost use Rattle.loss_words.specs.Told.{LostWhereDue};
+ghost use Rattle.power_loss.specs.Told.{LostWhereDue};
 
 use nvm_device::{Lost, Nvm};
 
@@ -17,7 +17,7 @@ impl Twin {
     ghost use Rattle.nvm_slots.specs.Slots.{live_bytes, IsRecordIn, IsDisjoint, Kept, Cut, Replaced, ReplacedOrNot};
 
     fn selector_byte<N: Nvm>(&self, nvm: &N) -> u8
-        requires on { (N.state nvm.now).on ≡ true }
+        requires on { (N.state nvm.now).power.on ≡ true }
         requires within { self.now.selector < (N.state nvm.now).size }
         ensures { IfSome (N.state nvm.now).bytes (λ row. result ≡ slice_index row self.now.selector) }
     {
@@ -28,7 +28,7 @@ impl Twin {
 
     /// Reads the beginning of the live slot.
     pub fn read<N: Nvm>(&self, nvm: &N, out: &mut [u8])
-        requires on { (N.state nvm.now).on ≡ true }
+        requires on { (N.state nvm.now).power.on ≡ true }
         requires record_in { IsRecordIn (N.state nvm.now).size self.now }
         requires fits { length out.old ≤ self.now.size }
         ensures { let told = (N.state nvm.now).bytes in
@@ -41,7 +41,7 @@ impl Twin {
     /// Makes these bytes the beginning of the live slot, in two writes. Where one of them is lost,
     /// the old or the new record is live.
     pub fn replace<N: Nvm>(&self, nvm: &mut N, bytes: &[u8]) -> Result<(), Lost>
-        requires on { (N.state nvm.old).on ≡ true }
+        requires on { (N.state nvm.old).power.on ≡ true }
         requires record_in { IsRecordIn (N.state nvm.old).size self.now }
         requires disjoint { IsDisjoint self.now }
         requires some { 0 < length bytes.now }
@@ -50,7 +50,7 @@ impl Twin {
             OnOk result (Kept 2 replaced (N.state nvm.old) (N.state nvm.new)) }
         ensures lost { let replaced = ReplacedOrNot self.now bytes.now in
             OnErr result (Cut 2 replaced (N.state nvm.old) (N.state nvm.new)) }
-        ensures due { LostWhereDue 2 (N.state nvm.old).due result }
+        ensures due { LostWhereDue 2 (N.state nvm.old).power.due result }
     {
         let byte = self.selector_byte(nvm);
         let other = 1 - byte % 2;

@@ -3,3 +3,4 @@ pub mod Lines
 pub mod Outputs
 pub mod Sessions
 pub mod Statuses
+pub mod OutputLaws

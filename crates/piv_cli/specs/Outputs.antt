@@ -1,8 +1,10 @@
 -- What each command writes, and what is so when the program ends.
-use Rattle.std.specs.Prelude.{◌≡◌, ℕ, List, take, Option, Some, [], IfSome}
+use Rattle.std.specs.Prelude.{◌≡◌, ℕ, ◌+◌, List, take, Option, Some, [], IfSome}
 use Rattle.piv_ports.specs.Ports.{with_bytes}
 use Rattle.piv_model.specs.PlainCard.{plain_base}
 use Rattle.card_app.specs.Serves.{served}
+use Rattle.piv_cli.specs.declared.status.Status.{Status}
+use Rattle.piv_cli.specs.declared.status.Status.TheVariants.{Done, Usage, TooLarge, ReadFault, WriteFault, NoMemory}
 use Rattle.piv_cli.specs.Lines.{AreLines}
 
 -- the most bytes of an input
@@ -14,7 +16,17 @@ abbrev pub Answered : Option (List ℕ) → Option (List ℕ) → Option (List �
 Answered left left_now taken taken_now = IfSome left (λ input.
     (left_now ≡ Some []) × (out : List ℕ) × AreLines (plain_base served) input out × (taken_now ≡ with_bytes taken out))
 
--- the sink failed: it took a prefix of that output
-abbrev pub AnsweredInPart : Option (List ℕ) → Option (List ℕ) → Option (List ℕ) → Type 0
-AnsweredInPart left taken taken_now = IfSome left (λ input.
-    (out : List ℕ) × (n : ℕ) × AreLines (plain_base served) input out × (taken_now ≡ with_bytes taken (take n out)))
+-- the sink failed: the input was read to its end, and what was taken is a prefix of that output
+abbrev pub AnsweredInPart : Option (List ℕ) → Option (List ℕ) → Option (List ℕ) → Option (List ℕ) → Type 0
+AnsweredInPart left left_now taken taken_now = IfSome left (λ input.
+    (left_now ≡ Some []) × (out : List ℕ) × (n : ℕ) × AreLines (plain_base served) input out
+    × (taken_now ≡ with_bytes taken (take n out)))
+
+-- how many bytes of the input may have been taken: one more where there were too many
+abbrev pub reach : Status → ℕ
+reach Done = most_input
+reach Usage = most_input
+reach (TooLarge what) = most_input + 1
+reach ReadFault = most_input
+reach WriteFault = most_input
+reach NoMemory = most_input

@@ -15,7 +15,8 @@ pub record IsAfter {S : Type 0} (state : S → StoreState) (card : Card S) (B : 
   pub fresh : epoch (entries R) (side (entries R) 1) ≤ 0
 
 -- the line was answered
-pub record Answers {S : Type 0} (state : S → StoreState) (B : Base) (R : Records) (line : Line) (card : Card S) (out out_now : List ℕ) : Type 0 where
+pub record Answers {S : Type 0} (state : S → StoreState) (B : Base) (R : Records) (line : Line)
+    (card : Card S) (out out_now : List ℕ) : Type 0 where
   pub first : List ℕ
   pub after : Records
   pub writes : LineWrites B R line first after
@@ -23,7 +24,8 @@ pub record Answers {S : Type 0} (state : S → StoreState) (B : Base) (R : Recor
   pub written : out_now ≡ out ++ first
 
 -- the reply to an exchange of these bytes
-pub record Replies {S : Type 0} (state : S → StoreState) (B : Base) (R : Records) (bytes : List ℕ) (card : Card S) (reply : List ℕ) : Type 0 where
+pub record Replies {S : Type 0} (state : S → StoreState) (B : Base) (R : Records) (bytes : List ℕ)
+    (card : Card S) (reply : List ℕ) : Type 0 where
   pub made : CardRecord
   pub act : made.act ≡ Exchange 1 0 bytes
   pub stands : IsAfter state card B (made ∷ R)

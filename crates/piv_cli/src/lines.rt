@@ -83,7 +83,7 @@ pub fn answer_lines<S: Store + Drop>(
     store: S,
     input: &[u8],
 ) -> Result<Vec<u8>, AllocError>
-    requires { IsTrue (S.state store).on }
+    requires { IsTrue (S.state store).power.on }
     ensures { (B : Base) → B.serves ≡ served → (S.state store).mem ≡ Some B.memory
         → IfOk result (λ out. AreLines B input.now out.items) }
 {

@@ -2,6 +2,7 @@
 #![tactic(auto)]
 
 mod hexadecimal;
+mod laws;
 mod lines;
 mod program;
 mod status;
@@ -46,7 +47,7 @@ fn without_words(error: &io::Error) -> Status {
 // Says how the program ended on standard error. That it can't be said changes nothing.
 fn ended(rt: &impl Eprint, status: Status) -> ExitCode {
     if status != Status::Done {
-        let _ = eprintln!(rt; "piv: {status}");
+        let _ = eprintln!(rt; "piv: {}", status.name());
     }
     if let Some(hint) = status.hint() {
         let _ = eprintln!(rt; "piv: {hint}");

@@ -1,8 +1,9 @@
 // What the program does, over any source and sink.
-ghost use Rattle.std.specs.Prelude.{◌≡◌, ◌≤◌, ◌<◌, ◌+◌, ◌⊎◌, ℕ, List, [], length, take, Some, None, IsTrue, IfOk, IfSome};
+ghost use Rattle.std.specs.Prelude.{◌≡◌, ◌≢◌, ◌≤◌, ◌<◌, ◌+◌, ◌⊎◌, ℕ, List, [], length, take, Some, None, IsTrue, IfOk, IfSome, OnOk};
+ghost use Rattle.piv_ports.specs.Ports.{IsFlushed, Rises, TakesAtMost, counted, with_bytes};
+ghost use Rattle.piv_ports.specs.Writes.{Writes};
 ghost use Rattle.piv_model.specs.PlainCard.{plain_memory};
-ghost use Rattle.piv_ports.specs.Ports.{Rises, counted, with_bytes};
-ghost use Rattle.piv_cli.specs.Outputs.{Answered, AnsweredInPart, most_input};
+ghost use Rattle.piv_cli.specs.Outputs.{Answered, AnsweredInPart, most_input, reach};
 ghost use Rattle.piv_cli.specs.Words.{asked_for};
 
 use crate::lines::answer_lines;
@@ -10,7 +11,7 @@ use crate::status::Status;
 use crate::words::{Request, Words};
 use memory_store::MemoryStore;
 use piv_model::{Limit, NoMemory, Store, plain_start};
-use piv_ports::{ReadStop, Sink, Source, WriteStop, read_all, write_all};
+use piv_ports::{Failed, ReadStop, Sink, Source, WriteStop, read_all, write_all};
 use std::alloc::Global;
 
 const MOST_INPUT: usize = 8_388_608;
@@ -43,36 +44,54 @@ pub fn plain<S: Source, K: Sink>(
         → K.taken sink.new ≡ with_bytes (K.taken sink.old) HELP.now }
     ensures version { result ≡ Status.Done → asked_for words.now ≡ Some Request.Version
         → K.taken sink.new ≡ with_bytes (K.taken sink.old) VERSION.now }
-    ensures flushed { result ≡ Status.Done → IfSome (K.flushed sink.new) (λ out. IfSome (K.taken sink.new) (λ bytes. out ≡ bytes)) }
-    ensures no_read_fault { result ≡ Status.Done → S.faults source.new ≡ S.faults source.old }
-    ensures no_write_fault { result ≡ Status.Done → K.faults sink.new ≡ K.faults sink.old }
+    ensures flushed { result ≡ Status.Done → IsFlushed (K.taken sink.new) (K.flushed sink.new) }
 
-    // Each other status has its cause.
-    ensures usage { result ≡ Status.Usage → asked_for words.now ≡ None }
-    ensures usage_only { asked_for words.now ≡ None → result ≡ Status.Usage }
-    ensures too_large { result ≡ Status.TooLarge Limit.Input → IfSome (S.left source.old) (λ input. most_input < length input) }
-    ensures too_large_count { result ≡ Status.TooLarge Limit.Input → S.given source.new ≡ counted (S.given source.old) (most_input + 1) }
-    ensures small { asked_for words.now ≡ Some Request.Apdu → (result ≡ Status.Done) ⊎ (result ≡ Status.WriteFault)
-        → IfSome (S.left source.old) (λ input. length input ≤ most_input) }
-    ensures input_only { (what : Limit) → result ≡ Status.TooLarge what → what ≡ Limit.Input }
-    ensures read_fault { result ≡ Status.ReadFault → Rises (S.faults source.old) (S.faults source.new) }
-    ensures write_fault { result ≡ Status.WriteFault → Rises (K.faults sink.old) (K.faults sink.new) }
-
-    // What else is read and written.
-    ensures untouched { (result ≡ Status.Done → ⊥) → (result ≡ Status.WriteFault → ⊥) → sink.new ≡ sink.old }
+    // What was read and written where a write failed.
     ensures prefix { result ≡ Status.WriteFault → asked_for words.now ≡ Some Request.Apdu
-        → AnsweredInPart (S.left source.old) (K.taken sink.old) (K.taken sink.new) }
+        → AnsweredInPart (S.left source.old) (S.left source.new) (K.taken sink.old) (K.taken sink.new) }
     ensures prefix_of_help { result ≡ Status.WriteFault → asked_for words.now ≡ Some Request.Help
         → (n : ℕ) × (K.taken sink.new ≡ with_bytes (K.taken sink.old) (take n HELP.now)) }
     ensures prefix_of_version { result ≡ Status.WriteFault → asked_for words.now ≡ Some Request.Version
         → (n : ℕ) × (K.taken sink.new ≡ with_bytes (K.taken sink.old) (take n VERSION.now)) }
-    ensures unread { (asked_for words.now ≡ Some Request.Apdu → ⊥) → source.new ≡ source.old }
 
-    // A command over an input that isn't too large, with ends that don't fail, is done if memory suffices.
+    // What else is read and written.
+    ensures untouched { result ≢ Status.Done → result ≢ Status.WriteFault → sink.new ≡ sink.old }
+    ensures unread { asked_for words.now ≢ Some Request.Apdu → source.new ≡ source.old }
+    ensures taken { asked_for words.now ≡ Some Request.Apdu → TakesAtMost (reach result)
+        (S.left source.old) (S.left source.new) (S.given source.old) (S.given source.new) }
+
+    // Each other status has its cause.
+    ensures usage { result ≡ Status.Usage → asked_for words.now ≡ None }
+    ensures usage_only { asked_for words.now ≡ None → result ≡ Status.Usage }
+    ensures too_large { result ≡ Status.TooLarge Limit.Input
+        → IfSome (S.left source.old) (λ input. most_input < length input) }
+    ensures too_large_count { result ≡ Status.TooLarge Limit.Input
+        → S.given source.new ≡ counted (S.given source.old) (most_input + 1) }
+    ensures input_only { (what : Limit) → result ≡ Status.TooLarge what → what ≡ Limit.Input }
+    ensures small { asked_for words.now ≡ Some Request.Apdu → (result ≡ Status.Done) ⊎ (result ≡ Status.WriteFault)
+        → IfSome (S.left source.old) (λ input. length input ≤ most_input) }
+    ensures read_fault { result ≡ Status.ReadFault → Rises (S.faults source.old) (S.faults source.new) }
+    ensures no_read_fault { result ≢ Status.ReadFault → S.faults source.new ≡ S.faults source.old }
+    ensures write_fault { result ≡ Status.WriteFault → Rises (K.faults sink.old) (K.faults sink.new) }
+    ensures no_write_fault { result ≢ Status.WriteFault → K.faults sink.new ≡ K.faults sink.old }
+
+    // A text is written, or the sink failed.
+    ensures texts_end { (request : Request) → asked_for words.now ≡ Some request → request ≢ Request.Apdu
+        → (result ≡ Status.Done) ⊎ (result ≡ Status.WriteFault) }
+
+    // A command over an input that isn't too large, with ends that don't fail, is done if memory suffices; over a
+    // source that tells nothing, if fewer bytes were given than are too many.
     ensures complete { (request : Request) (input : List ℕ) → asked_for words.now ≡ Some request
         → S.left source.old ≡ Some input → length input ≤ most_input
-        → (Rises (S.faults source.old) (S.faults source.new) → ⊥) → (Rises (K.faults sink.old) (K.faults sink.new) → ⊥)
+        → ¬ (Rises (S.faults source.old) (S.faults source.new)) → ¬ (Rises (K.faults sink.old) (K.faults sink.new))
         → (result ≡ Status.Done) ⊎ (result ≡ Status.NoMemory) }
+    ensures complete_count { (request : Request) → asked_for words.now ≡ Some request
+        → S.given source.new < counted (S.given source.old) (most_input + 1)
+        → ¬ (Rises (S.faults source.old) (S.faults source.new)) → ¬ (Rises (K.faults sink.old) (K.faults sink.new))
+        → (result ≡ Status.Done) ⊎ (result ≡ Status.NoMemory) }
+    ensures ends { (request : Request) → asked_for words.now ≡ Some request
+        → ¬ (Rises (S.faults source.old) (S.faults source.new)) → ¬ (Rises (K.faults sink.old) (K.faults sink.new))
+        → (result ≡ Status.Done) ⊎ (result ≡ Status.NoMemory) ⊎ (result ≡ Status.TooLarge Limit.Input) }
 {
     match words.request() {
         None => Status::Usage,
@@ -83,29 +102,37 @@ pub fn plain<S: Source, K: Sink>(
 }
 
 // Writes all of this, and flushes it.
+fn write_flushed<K: Sink>(sink: &mut K, bytes: &[u8]) -> Result<(), WriteStop>
+    ensures written { Writes K.taken K.flushed K.faults bytes.now sink.old sink.new result }
+    ensures flushed { OnOk result (IsFlushed (K.taken sink.new) (K.flushed sink.new)) }
+{
+    write_all(sink, bytes)?;
+    match sink.flush() {
+        Ok(()) => Ok(()),
+        Err(Failed) => Err(WriteStop::Failed),
+    }
+}
+
+// The same, as the end of the program.
 fn write_out<K: Sink>(sink: &mut K, bytes: &[u8]) -> Status
     ensures done { result ≡ Status.Done → K.taken sink.new ≡ with_bytes (K.taken sink.old) bytes.now }
-    ensures flushed { result ≡ Status.Done → IfSome (K.flushed sink.new) (λ out. IfSome (K.taken sink.new) (λ taken. out ≡ taken)) }
+    ensures flushed { result ≡ Status.Done → IsFlushed (K.taken sink.new) (K.flushed sink.new) }
     ensures no_fault { result ≡ Status.Done → K.faults sink.new ≡ K.faults sink.old }
     ensures fault { result ≡ Status.WriteFault → Rises (K.faults sink.old) (K.faults sink.new) }
     ensures prefix { (n : ℕ) × (K.taken sink.new ≡ with_bytes (K.taken sink.old) (take n bytes.now)) }
     ensures no_other { (result ≡ Status.Done) ⊎ (result ≡ Status.WriteFault) }
 {
-    match write_all(sink, bytes) {
-        Ok(()) => {}
-        Err(WriteStop::Failed) => return Status::WriteFault,
-    }
-    match sink.flush() {
+    match write_flushed(sink, bytes) {
         Ok(()) => Status::Done,
-        Err(_) => Status::WriteFault,
+        Err(WriteStop::Failed) => Status::WriteFault,
     }
 }
 
 // The store of the plain card, which never loses power.
 fn plain_store(alloc: Global) -> Result<MemoryStore, NoMemory>
-    ensures on { IfOk result (λ store. IsTrue (⟦<MemoryStore as Store>⟧.state store).on) }
+    ensures on { IfOk result (λ store. IsTrue (⟦<MemoryStore as Store>⟧.state store).power.on) }
     ensures memory { IfOk result (λ store. (⟦<MemoryStore as Store>⟧.state store).mem ≡ Some plain_memory) }
-    ensures never_lost { IfOk result (λ store. (⟦<MemoryStore as Store>⟧.state store).due ≡ Some []) }
+    ensures never_lost { IfOk result (λ store. (⟦<MemoryStore as Store>⟧.state store).power.due ≡ Some []) }
 {
     let start = plain_start(alloc)?;
     MemoryStore::new(alloc, &start, Vec::new(alloc))
@@ -113,22 +140,34 @@ fn plain_store(alloc: Global) -> Result<MemoryStore, NoMemory>
 
 // Reads lines of APDUs, and writes what the plain card replies.
 fn apdu<S: Source, K: Sink>(alloc: Global, source: &mut S, sink: &mut K) -> Status
-    ensures done { result ≡ Status.Done → Answered (S.left source.old) (S.left source.new) (K.taken sink.old) (K.taken sink.new) }
-    ensures flushed { result ≡ Status.Done → IfSome (K.flushed sink.new) (λ out. IfSome (K.taken sink.new) (λ bytes. out ≡ bytes)) }
-    ensures no_read_fault { result ≡ Status.Done → S.faults source.new ≡ S.faults source.old }
-    ensures no_write_fault { result ≡ Status.Done → K.faults sink.new ≡ K.faults sink.old }
-    ensures usage { result ≡ Status.Usage → ⊥ }
-    ensures too_large { result ≡ Status.TooLarge Limit.Input → IfSome (S.left source.old) (λ input. most_input < length input) }
-    ensures too_large_count { result ≡ Status.TooLarge Limit.Input → S.given source.new ≡ counted (S.given source.old) (most_input + 1) }
-    ensures small { (result ≡ Status.Done) ⊎ (result ≡ Status.WriteFault) → IfSome (S.left source.old) (λ input. length input ≤ most_input) }
+    ensures done { result ≡ Status.Done
+        → Answered (S.left source.old) (S.left source.new) (K.taken sink.old) (K.taken sink.new) }
+    ensures flushed { result ≡ Status.Done → IsFlushed (K.taken sink.new) (K.flushed sink.new) }
+    ensures prefix { result ≡ Status.WriteFault
+        → AnsweredInPart (S.left source.old) (S.left source.new) (K.taken sink.old) (K.taken sink.new) }
+    ensures untouched { result ≢ Status.Done → result ≢ Status.WriteFault → sink.new ≡ sink.old }
+    ensures taken { TakesAtMost (reach result)
+        (S.left source.old) (S.left source.new) (S.given source.old) (S.given source.new) }
+    ensures usage { result ≢ Status.Usage }
+    ensures too_large { result ≡ Status.TooLarge Limit.Input
+        → IfSome (S.left source.old) (λ input. most_input < length input) }
+    ensures too_large_count { result ≡ Status.TooLarge Limit.Input
+        → S.given source.new ≡ counted (S.given source.old) (most_input + 1) }
     ensures input_only { (what : Limit) → result ≡ Status.TooLarge what → what ≡ Limit.Input }
+    ensures small { (result ≡ Status.Done) ⊎ (result ≡ Status.WriteFault)
+        → IfSome (S.left source.old) (λ input. length input ≤ most_input) }
     ensures read_fault { result ≡ Status.ReadFault → Rises (S.faults source.old) (S.faults source.new) }
+    ensures no_read_fault { result ≢ Status.ReadFault → S.faults source.new ≡ S.faults source.old }
     ensures write_fault { result ≡ Status.WriteFault → Rises (K.faults sink.old) (K.faults sink.new) }
-    ensures untouched { (result ≡ Status.Done → ⊥) → (result ≡ Status.WriteFault → ⊥) → sink.new ≡ sink.old }
-    ensures prefix { result ≡ Status.WriteFault → AnsweredInPart (S.left source.old) (K.taken sink.old) (K.taken sink.new) }
+    ensures no_write_fault { result ≢ Status.WriteFault → K.faults sink.new ≡ K.faults sink.old }
     ensures complete { (input : List ℕ) → S.left source.old ≡ Some input → length input ≤ most_input
-        → (Rises (S.faults source.old) (S.faults source.new) → ⊥) → (Rises (K.faults sink.old) (K.faults sink.new) → ⊥)
+        → ¬ (Rises (S.faults source.old) (S.faults source.new)) → ¬ (Rises (K.faults sink.old) (K.faults sink.new))
         → (result ≡ Status.Done) ⊎ (result ≡ Status.NoMemory) }
+    ensures complete_count { S.given source.new < counted (S.given source.old) (most_input + 1)
+        → ¬ (Rises (S.faults source.old) (S.faults source.new)) → ¬ (Rises (K.faults sink.old) (K.faults sink.new))
+        → (result ≡ Status.Done) ⊎ (result ≡ Status.NoMemory) }
+    ensures ends { ¬ (Rises (S.faults source.old) (S.faults source.new)) → ¬ (Rises (K.faults sink.old) (K.faults sink.new))
+        → (result ≡ Status.Done) ⊎ (result ≡ Status.NoMemory) ⊎ (result ≡ Status.TooLarge Limit.Input) }
 {
     let input = match read_all(alloc, source, MOST_INPUT) {
         Ok(input) => input,

@@ -1,9 +1,8 @@
 // How the program ends.
-ghost use Rattle.std.specs.Prelude.{◌≡◌};
-ghost use Rattle.piv_cli.specs.Statuses.{number_of};
+ghost use Rattle.std.specs.Prelude.{◌≡◌, option_map};
+ghost use Rattle.piv_cli.specs.Statuses.{hint_of, name_of, number_of};
 
 use piv_model::Limit;
-use std::fmt;
 
 /// How the program ends.
 #[derive(Clone, Copy, Debug, PartialEq, Eq)]
@@ -37,26 +36,28 @@ impl Status {
         }
     }
 
-    /// Where or what to do, for a person.
-    pub fn hint(self) -> Option<&'static str> {
+    /// Its name, which the program says on standard error where it isn't Done.
+    pub fn name(&self) -> &'static str
+        ensures { result.now ≡ name_of self.now }
+    {
         match self {
-            Status::Usage => Some("see piv --help"),
-            Status::TooLarge { .. } => Some("the input has more than 8388608 bytes"),
-            Status::Done | Status::ReadFault | Status::WriteFault | Status::NoMemory => None,
-        }
-    }
-}
-
-impl fmt::Display for Status {
-    fn fmt<W: fmt::Write>(&self, f: &mut fmt::Formatter<W>) -> fmt::Result {
-        let name = match self {
             Status::Done => "Done",
             Status::Usage => "Usage",
             Status::TooLarge { .. } => "TooLarge",
             Status::ReadFault => "ReadFault",
             Status::WriteFault => "WriteFault",
             Status::NoMemory => "NoMemory",
-        };
-        f.write_str(name)
+        }
+    }
+
+    /// What the second line on standard error says, if there is one: where or what to do, for a person.
+    pub fn hint(&self) -> Option<&'static str>
+        ensures { option_map (λ text. text.now) result ≡ hint_of self.now }
+    {
+        match self {
+            Status::Usage => Some("see piv --help"),
+            Status::TooLarge { .. } => Some("the input has more than 8388608 bytes"),
+            Status::Done | Status::ReadFault | Status::WriteFault | Status::NoMemory => None,
+        }
     }
 }

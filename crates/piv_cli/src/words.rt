@@ -48,13 +48,9 @@ impl Words {
         ensures ok { OnOk result (self.new ≡ self.old ++ word.now ∷ []) }
         ensures err { OnErr result (self.new ≡ self.old) }
     {
-        let Ok(text) = String::from_str(self.alloc, word) else {
-            return Err(NoMemory);
-        };
-        match self.words.push(text) {
-            Ok(()) => Ok(()),
-            Err(_) => Err(NoMemory),
-        }
+        let text = String::from_str(self.alloc, word)?;
+        self.words.push(text)?;
+        Ok(())
     }
 
     /// What the words ask, if they are a command.

@@ -5,6 +5,7 @@ use Rattle.std.specs.List.{list_all}
 use Rattle.std.specs.Str.{bytes_eq}
 use Rattle.piv_model.specs.declared.kinds.RefId.{RefId}
 use Rattle.piv_model.specs.declared.kinds.RefId.TheVariants.{Pin, Puk, GlobalPin}
+use Rattle.piv_model.specs.ApplicationNames.{full_aid}
 
 -- a PIN: 6 to 8 digits, filled up to 8 bytes with FF
 abbrev pub is_digit : ℕ → Bool
@@ -35,10 +36,6 @@ is_pair r bytes = (length bytes == 16) && is_secret r (take 8 bytes) && is_secre
 -- a PUK and a new PIN
 abbrev pub is_puk_and_pin : List ℕ → Bool
 is_puk_and_pin bytes = (length bytes == 16) && is_pin (drop 8 bytes)
-
--- the full name of the PIV application
-abbrev pub full_aid : List ℕ
-full_aid = 0xA0 ∷ 0x00 ∷ 0x00 ∷ 0x03 ∷ 0x08 ∷ 0x00 ∷ 0x00 ∷ 0x10 ∷ 0x00 ∷ 0x01 ∷ 0x00 ∷ []
 
 -- the Discovery Object: the full name under 4F, and under 5F2F a PIN usage policy, which is 40 00, or, on a card with a
 -- Global PIN, 60 10 or 60 20

@@ -2,6 +2,10 @@ pub mod Rules
 pub mod Objects
 pub mod Commands
 pub mod Framing
+pub mod StatusWords
+pub mod Chains
+pub mod ApplicationNames
+pub mod ApduForms
 pub mod Forms
 pub mod Memory
 pub mod Changes
@@ -16,3 +20,4 @@ pub mod Field
 pub mod Written
 pub mod Base
 pub mod SoundLaws
+pub mod Replies

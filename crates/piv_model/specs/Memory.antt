@@ -4,6 +4,7 @@ use Rattle.piv_model.specs.declared.kinds.RefId.{RefId}
 use Rattle.piv_model.specs.declared.kinds.RefId.TheVariants.{Pin, Puk, GlobalPin}
 use Rattle.piv_model.specs.declared.kinds.KeyId.{KeyId}
 use Rattle.piv_model.specs.declared.kinds.KeyId.TheVariants.{AdminKey, CardAuth}
+use Rattle.piv_model.specs.declared.limits.TheConstants.{LONGEST_OBJECT}
 
 -- a reference: its retry limit, the tries left, and its secret
 pub record Reference : Type 0 where
@@ -59,7 +60,7 @@ blocks_used objects = sum_by (λ o. blocks (length o)) objects
 
 -- no value has more bytes
 abbrev pub is_short : List ℕ → Bool
-is_short v = nat_le (length v) 16384
+is_short v = nat_le (length v) LONGEST_OBJECT
 
 -- there is room for one more value beside all objects present
 unfoldable pub fits : Memory → List ℕ → Bool

@@ -65,6 +65,10 @@ object_table =
     ∷ (object_row (long_tag 0x21) (codes "2.16.21") Pin Never)
     ∷ []
 
+-- the place of the Discovery Object
+abbrev pub discovery_place : ℕ
+discovery_place = 10
+
 -- the place of the object with this tag
 unfoldable pub place_of : List ℕ → Option ℕ
 place_of tag = position (λ (row : ObjectRow). bytes_eq row.tag tag) object_table

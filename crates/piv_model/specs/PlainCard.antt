@@ -4,6 +4,7 @@ use Rattle.std.specs.Prelude.{ℕ, List, [], ◌∷◌, ◌++◌, replicate, Non
 use Rattle.piv_model.specs.Memory.{Memory}
 use Rattle.piv_model.specs.Base.{Base}
 use Rattle.piv_model.specs.Forms.{discovery_head}
+use Rattle.piv_model.specs.Objects.{discovery_place}
 
 abbrev pub plain_pin : List ℕ
 plain_pin = 0x31 ∷ 0x32 ∷ 0x33 ∷ 0x34 ∷ 0x35 ∷ 0x36 ∷ 0xFF ∷ 0xFF ∷ []
@@ -21,6 +22,10 @@ plain_card_key =
     0x00 ∷ 0x01 ∷ 0x02 ∷ 0x03 ∷ 0x04 ∷ 0x05 ∷ 0x06 ∷ 0x07
     ∷ 0x08 ∷ 0x09 ∷ 0x0A ∷ 0x0B ∷ 0x0C ∷ 0x0D ∷ 0x0E ∷ 0x0F ∷ []
 
+-- such a key in the 32 bytes of a start, filled up with zeros
+abbrev pub filled_up : List ℕ → List ℕ
+filled_up key = key ++ replicate 16 0
+
 -- the CHUID, the printed information and the Discovery Object
 abbrev pub plain_chuid : List ℕ
 plain_chuid = 0x3E ∷ 0x00 ∷ 0xFE ∷ 0x00 ∷ []
@@ -30,6 +35,10 @@ plain_printed = 0x01 ∷ 0x02 ∷ 0x41 ∷ 0x42 ∷ 0xFE ∷ 0x00 ∷ []
 
 abbrev pub plain_discovery : List ℕ
 plain_discovery = discovery_head ++ 0x40 ∷ 0x00 ∷ []
+
+-- its objects by their places, in the order in which they are added
+abbrev pub plain_pairs : List (ℕ × List ℕ)
+plain_pairs = (1, plain_chuid) ∷ (9, plain_printed) ∷ (discovery_place, plain_discovery) ∷ []
 
 -- the objects at their places 0 to 32
 abbrev pub plain_objects : List (List ℕ)

@@ -4,7 +4,9 @@ use Rattle.std.specs.Prelude.{◌≡◌, ℕ, Bool, true, not, ◌&&◌, ◌||�
 use Rattle.std.specs.List.{list_all}
 use Rattle.piv_model.specs.declared.kinds.RefId.{RefId}
 use Rattle.piv_model.specs.declared.kinds.KeyId.{KeyId}
+use Rattle.piv_model.specs.declared.limits.TheConstants.{MOST_BLOCKS, OBJECTS}
 use Rattle.piv_model.specs.Forms.{is_secret, is_discovery}
+use Rattle.piv_model.specs.Objects.{discovery_place}
 use Rattle.piv_model.specs.Memory.{Memory, Reference, CardKey, has, reference, key_at, stored, is_short, blocks_used}
 
 -- a limit is 1 to 15, and the tries are at most it
@@ -25,16 +27,16 @@ key_size a = if a == 0x08 then 16 else if a == 0x0A then 24 else 32
 abbrev pub is_card_key : CardKey → Bool
 is_card_key k = is_algorithm k.algorithm && (length k.key == key_size k.algorithm)
 
--- a value that the object of a place may have; the Discovery Object stands at place 10
+-- a value that the object of a place may have
 abbrev pub may_stand : Bool → ℕ → List ℕ → Bool
-may_stand has_global place v = not (place == 10) || (length v == 0) || is_discovery has_global v
+may_stand has_global place v = not (place == discovery_place) || (length v == 0) || is_discovery has_global v
 
 pub record IsSound (m : Memory) : Type 0 where
   pub limits : (r : RefId) → IsTrue (has m r) → IsTrue (is_limited (reference m r))
   pub secrets : (r : RefId) → IsTrue (has m r) → IsTrue (is_secret r (reference m r).secret)
   pub keys : (key : KeyId) → IsTrue (is_card_key (key_at m key))
-  pub budget : IsTrue (nat_le 1 m.budget && nat_le m.budget 2048)
-  pub places : length m.objects ≡ 33
+  pub budget : IsTrue (nat_le 1 m.budget && nat_le m.budget MOST_BLOCKS)
+  pub places : length m.objects ≡ OBJECTS
   pub lengths : IsTrue (list_all is_short m.objects)
   pub room : IsTrue (nat_le (blocks_used m.objects) m.budget)
-  pub discovery : IsTrue (may_stand (is_some m.global) 10 (stored m 10))
+  pub discovery : IsTrue (may_stand (is_some m.global) discovery_place (stored m discovery_place))

@@ -2,8 +2,8 @@
 use Rattle.std.specs.Prelude.{◌≡◌, ◌⊎◌, ℕ, Bool, true, false, List, Result, Ok, Err, IfSome}
 use Rattle.std.specs.declared.option.Option.{Option}
 use Rattle.std.specs.Option.{option_map}
-use Rattle.loss_words.specs.Due.{is_due, due_after}
-use Rattle.loss_words.specs.Told.{Rose}
+use Rattle.power_loss.specs.Due.{is_due}
+use Rattle.power_loss.specs.Power.{Power, power_after, LostIn}
 use Rattle.piv_model.specs.declared.store.PutFault.{PutFault}
 use Rattle.piv_model.specs.declared.store.PutFault.TheVariants.{Lost, TooLarge}
 use Rattle.piv_model.specs.Memory.{Memory}
@@ -12,29 +12,19 @@ use Rattle.piv_model.specs.Changes.{with_object}
 pub record StoreState : Type 0 where
   -- the memory, where the device tells its bytes
   pub mem : Option Memory
-  -- whether it has power
-  pub on : Bool
-  -- how often it has lost power within a call
-  pub losses : ℕ
-  -- the number of losses of a plan, 0 without one
-  pub span : ℕ
-  -- when later losses come, where the device tells it: the k-th number says how many writes from now
-  pub due : Option (List ℕ)
+  pub power : Power
 
 -- after a call of n writes, none of them lost, that changes the memory so
 abbrev pub changed : ℕ → (Memory → Memory) → StoreState → StoreState
-changed n change s = record s { mem = option_map change s.mem; due = option_map (due_after n) s.due }
+changed n change s = record s { mem = option_map change s.mem; power = power_after n s.power }
 
--- after such a call that lost power: the memory is the old or the new one, and the power is off
-pub record CutShort (n : ℕ) (change : Memory → Memory) (old new : StoreState) : Type 0 where
-  pub which : (new.mem ≡ old.mem) ⊎ (new.mem ≡ option_map change old.mem)
-  pub rose : Rose old.losses new.losses
-  pub others : new ≡ record old {
-    mem = new.mem;
-    on = false;
-    losses = new.losses;
-    due = option_map (due_after n) old.due;
-  }
+-- the old memory, or what the change makes of it
+abbrev pub IsEither : (Memory → Memory) → Option Memory → Option Memory → Type 0
+IsEither change old new = (new ≡ old) ⊎ (new ≡ option_map change old)
+
+-- after such a call that lost power
+abbrev pub CutShort : ℕ → (Memory → Memory) → StoreState → StoreState → Type 0
+CutShort n change old new = LostIn n (IsEither change old.mem new.mem) old.power new.power
 
 -- what a put of n writes leaves, by its answer
 abbrev pub Puts : {T : Type 0} → ℕ → ℕ → List ℕ → Result T PutFault → StoreState → StoreState → Type 0

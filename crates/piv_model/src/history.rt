@@ -5,7 +5,7 @@ ghost use Rattle.piv_model.specs.Written.{at_place, command_length, HasRoom, IsP
 
 use crate::command::Command;
 use crate::kinds::{Interface, Took};
-use crate::store::NoMemory;
+use crate::no_memory::NoMemory;
 use crate::stored::{StoredEntry, entry_at, stored_entry};
 use std::alloc::Global;
 use std::marker::Model;
@@ -120,14 +120,8 @@ impl History {
         ensures empty { IfOk result (λ h. h.past ≡ []) }
         ensures room { IfOk result (λ h. HasRoom entries bytes h) }
     {
-        let rows = match Vec::with_capacity(alloc, entries) {
-            Ok(rows) => rows,
-            Err(_) => return Err(NoMemory),
-        };
-        let bytes = match Vec::with_capacity(alloc, bytes) {
-            Ok(bytes) => bytes,
-            Err(_) => return Err(NoMemory),
-        };
+        let rows = Vec::with_capacity(alloc, entries)?;
+        let bytes = Vec::with_capacity(alloc, bytes)?;
         Ok(History { rows, bytes })
     }
 
@@ -165,18 +159,15 @@ impl History {
         self.rows.push(row).unwrap();
     }
 
-    /// Makes room for so many entries and so many bytes of their commands. The entries stand, also where
-    /// memory is wanting.
+    /// Makes room for so many entries and so many bytes of their commands. The entries, and the room that was
+    /// there, stand also where memory is wanting.
     pub fn grow(&mut self, entries: usize, bytes: usize) -> Result<(), NoMemory>
         ensures same { self.new.past ≡ self.old.past }
+        ensures kept { HasRoom self.old.entries self.old.bytes self.new }
         ensures room { OnOk result (HasRoom entries bytes self.new) }
     {
-        if self.rows.reserve(entries).is_err() {
-            return Err(NoMemory);
-        }
-        if self.bytes.reserve(bytes).is_err() {
-            return Err(NoMemory);
-        }
+        self.rows.reserve(entries)?;
+        self.bytes.reserve(bytes)?;
         Ok(())
     }
 
@@ -184,14 +175,8 @@ impl History {
     pub fn copy(&self) -> Result<History, NoMemory>
         ensures { IfOk result (λ h. h.past ≡ self.now.past) }
     {
-        let rows = match self.rows.clone() {
-            Ok(rows) => rows,
-            Err(_) => return Err(NoMemory),
-        };
-        let bytes = match self.bytes.clone() {
-            Ok(bytes) => bytes,
-            Err(_) => return Err(NoMemory),
-        };
+        let rows = self.rows.clone()?;
+        let bytes = self.bytes.clone()?;
         Ok(History { rows, bytes })
     }
 }

@@ -46,6 +46,15 @@ pub enum KeyId {
     CardAuth,
 }
 
+/// An application of the card.
+#[derive(Clone, Copy, PartialEq, Eq, Debug)]
+pub enum Application {
+    /// The PIV card application.
+    Piv,
+    /// The application that is selected when a connection is opened.
+    Idle,
+}
+
 /// How far a command came that lost power.
 #[derive(Clone, Copy, PartialEq, Eq, Debug)]
 pub enum Took {

@@ -2,31 +2,45 @@
 //! (SP 800-73-4 parts 1 and 2).
 #![tactic(auto)]
 
+mod answers;
+#[cfg(test)]
+mod answers_tests;
+pub mod application_names;
 mod command;
+mod discovery;
 mod found;
 mod history;
 #[cfg(test)]
 mod history_tests;
 mod kinds;
 mod laws;
-mod limits;
+pub mod limits;
+mod no_memory;
 mod objects;
+mod places;
 mod plain;
+mod reply_bytes;
 mod start;
 #[cfg(test)]
 mod start_tests;
+pub mod status_words;
 mod store;
 mod stored;
 #[cfg(test)]
 mod tests;
 
+pub use answers::ApiAnswer;
+pub use application_names::application_by_name;
 pub use command::{Apdu, AuthFields, Command};
+pub use discovery::discovery_value;
 pub use found::Found;
 pub use history::{ActKind, Entry, History, Refusal};
-pub use kinds::{Interface, KeyId, RefId, Rule, Took, use_rule};
+pub use kinds::{Application, Interface, KeyId, RefId, Rule, Took, use_rule};
 pub use laws::sound_memories_stay_sound;
-pub use limits::{Limit, Where};
+pub use no_memory::NoMemory;
 pub use objects::{ObjectId, object_by_oid, object_by_tag, read_rule, tag};
+pub use places::{Limit, Where};
 pub use plain::plain_start;
-pub use start::{KeyBytes, Start, StartObjects};
-pub use store::{Lost, NoMemory, PutFault, Store};
+pub use reply_bytes::{Body, ReplyBytes};
+pub use start::{KeyBytes, Start, StartGlobal, StartObjects};
+pub use store::{Lost, PutFault, Store};

@@ -1,34 +1,22 @@
-// Where a scene is wrong, and which limit was passed.
+//! The sizes of a card, and how many of each thing it has at most.
 
-/// A place in a scene. Cards and scripts are counted from 0, lines from 1.
-#[derive(Clone, Copy, PartialEq, Eq, Debug)]
-pub enum Where {
-    NotToml,
-    Cards,
-    Card(u32),
-    Script(u32),
-    Line(u32, u32),
-    Schedule,
-}
+/// The bytes of the longest value of an object.
+pub const LONGEST_OBJECT: usize = 16_384;
 
-/// A limit of the program's input.
-#[derive(Clone, Copy, PartialEq, Eq, Debug)]
-pub enum Limit {
-    Input,
-    Cards,
-    Scripts,
-    Lines,
-    Schedule,
-    LimitPin,
-    LimitPuk,
-    Budget,
-    Losses,
-    Object,
-    Room,
-    Put,
-    Puts,
-    Crypt,
-    Apdu,
-    Login,
-    Aid,
-}
+/// The bytes of the longest command's data, joined from its chain.
+pub const LONGEST_COMMAND: usize = 16_640;
+
+/// The bytes that are reserved for the data of a reply: the longest object with what stands around it.
+pub const REPLY_BUFFER: usize = 16_400;
+
+/// The number of objects, present or absent, each at its place (SP 800-73-4 part 1, data objects).
+pub const OBJECTS: usize = 33;
+
+/// The connections that are open at a time.
+pub const CONNECTIONS: usize = 16;
+
+/// The blocks of the largest budget.
+pub const MOST_BLOCKS: usize = 2_048;
+
+/// The bytes of a block, in which the budget is counted.
+pub const BLOCK: usize = 64;

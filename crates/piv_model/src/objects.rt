@@ -1,12 +1,13 @@
 // The data objects of the card, by their places in the table (SP 800-73-4 part 1).
 ghost use Rattle.std.specs.Prelude.{◌≡◌, ◌≤◌, ◌<◌, ℕ, length, map, position, slice_index_or, IfSome};
 ghost use Rattle.std.specs.Str.{bytes_eq};
-ghost use Rattle.piv_model.specs.Objects.{place_of, place_of_oid, row_at, read_rule_of, no_row};
+ghost use Rattle.piv_model.specs.Objects.{discovery_place, place_of, place_of_oid, row_at, read_rule_of, no_row};
 ghost use Rattle.piv_model.specs.Rows.{row_of};
 ghost use Rattle.piv_model.specs.declared.objects.Row.{Row};
 
 use crate::kinds::Rule::{Always, Never, Pin};
 use crate::kinds::{Interface, Rule};
+use crate::limits::OBJECTS;
 use std::marker::Model;
 
 // A row of the table: an object's tag and identifier, and its rules for reading.
@@ -18,7 +19,7 @@ struct Row {
 }
 
 #[rattlefmt::skip]
-const TABLE: [Row; 33] = [
+const TABLE: [Row; OBJECTS] = [
     Row { tag: &[0x5F, 0xC1, 0x07], oid: "2.16.840.1.101.3.7.1.219.0", contact: Always, contactless: Never },
     Row { tag: &[0x5F, 0xC1, 0x02], oid: "2.16.840.1.101.3.7.2.48.0", contact: Always, contactless: Always },
     Row { tag: &[0x5F, 0xC1, 0x05], oid: "2.16.840.1.101.3.7.2.1.1", contact: Always, contactless: Never },
@@ -54,6 +55,9 @@ const TABLE: [Row; 33] = [
     Row { tag: &[0x5F, 0xC1, 0x21], oid: "2.16.840.1.101.3.7.2.16.21", contact: Pin, contactless: Never },
 ];
 
+// The place of the Discovery Object.
+const DISCOVERY: u8 = 10;
+
 /// A data object: its place, 0 to 32, in the table of objects.
 #[derive(Clone, Copy, PartialEq, Eq, Debug)]
 pub struct ObjectId {
@@ -77,6 +81,13 @@ impl ObjectId {
         ensures { result ≡ place }
     {
         ObjectId { place }
+    }
+
+    /// The Discovery Object.
+    pub fn discovery() -> ObjectId
+        ensures { result ≡ discovery_place }
+    {
+        ObjectId::at(DISCOVERY)
     }
 
     /// The object's place in the table.

@@ -1,21 +1,25 @@
 // The plain card.
-ghost use Rattle.std.specs.Prelude.{◌≡◌, [], ◌∷◌, replicate, IfOk};
+ghost use Rattle.std.specs.Prelude.{◌≡◌, replicate, IfOk};
 ghost use Rattle.piv_model.specs.Starts.{memory_of_start, SpellsMemory};
-ghost use Rattle.piv_model.specs.PlainCard.{plain_memory, plain_chuid, plain_printed, plain_discovery};
+ghost use Rattle.piv_model.specs.PlainCard.{plain_memory, plain_pairs, plain_admin_key, plain_card_key, filled_up};
 
+use crate::discovery::discovery_value;
+use crate::no_memory::NoMemory;
 use crate::objects::ObjectId;
-use crate::start::{KeyBytes, Start, StartObjects};
-use crate::store::NoMemory;
+use crate::start::{KeyBytes, Start, StartGlobal, StartObjects};
 use std::alloc::Global;
 
 const CHUID: [u8; 4] = [0x3E, 0x00, 0xFE, 0x00];
 
 const PRINTED_INFORMATION: [u8; 6] = [0x01, 0x02, 0x41, 0x42, 0xFE, 0x00];
 
-const DISCOVERY: [u8; 18] = [
-    0x4F, 0x0B, 0xA0, 0x00, 0x00, 0x03, 0x08, 0x00, 0x00, 0x10, 0x00, 0x01, 0x00, 0x5F, 0x2F, 0x02,
-    0x40, 0x00,
-];
+// The PIN usage policy: the PIN of the PIV application alone.
+const POLICY: [u8; 2] = [0x40, 0x00];
+
+const NO_GLOBAL_PIN: StartGlobal = StartGlobal {
+    limit: 0,
+    pin: [0; 8],
+};
 
 // The keys of AES-128, each behind it filled up to 32 bytes with zeros.
 #[rattlefmt::skip]
@@ -38,18 +42,22 @@ const CARD_AUTHENTICATION_KEY: KeyBytes = KeyBytes {
 
 // A CHUID, printed information and a Discovery Object.
 fn plain_objects(alloc: Global) -> Result<StartObjects, NoMemory>
-    ensures { IfOk result (λ objects. objects ≡ (1, plain_chuid) ∷ (9, plain_printed) ∷ (10, plain_discovery) ∷ []) }
+    ensures { IfOk result (λ objects. objects ≡ plain_pairs) }
 {
     let mut objects = StartObjects::new(alloc);
     objects.push(ObjectId::at(1), &CHUID)?;
     objects.push(ObjectId::at(9), &PRINTED_INFORMATION)?;
-    objects.push(ObjectId::at(10), &DISCOVERY)?;
+    objects.push(ObjectId::discovery(), &discovery_value(POLICY))?;
     Ok(objects)
 }
 
 /// The plain card, on which `piv apdu` runs.
 pub fn plain_start(alloc: Global) -> Result<Start, NoMemory>
     ensures memory { IfOk result (λ start. memory_of_start start ≡ plain_memory) }
+    ensures objects { IfOk result (λ start. start.objects ≡ plain_pairs) }
+    ensures keys { IfOk result (λ start.
+        (start.admin.bytes ≡ filled_up plain_admin_key) × (start.card_auth.bytes ≡ filled_up plain_card_key)) }
+    ensures global { IfOk result (λ start. start.global ≡ record { limit = 0; pin = replicate 8 0 }) }
     ensures random { IfOk result (λ start. start.random ≡ replicate 32 0) }
     ensures spells { IfOk result (λ start. SpellsMemory start) }
 {
@@ -59,6 +67,7 @@ pub fn plain_start(alloc: Global) -> Result<Start, NoMemory>
         puk: [0x31, 0x32, 0x33, 0x34, 0x35, 0x36, 0x37, 0x38],
         limit_pin: 3,
         limit_puk: 3,
+        global: NO_GLOBAL_PIN,
         admin: ADMIN_KEY,
         card_auth: CARD_AUTHENTICATION_KEY,
         budget: 2048,

@@ -2,8 +2,8 @@
 ghost use Rattle.std.specs.Prelude.{◌≡◌, ◌<◌, [], ◌∷◌, ◌++◌, length, map, Some, IfOk, OnOk, OnErr, slice_get};
 ghost use Rattle.piv_model.specs.Starts.{value_at};
 
+use crate::no_memory::NoMemory;
 use crate::objects::ObjectId;
-use crate::store::NoMemory;
 use std::alloc::Global;
 use std::marker::Model;
 
@@ -12,6 +12,13 @@ use std::marker::Model;
 pub struct KeyBytes {
     pub algorithm: u8,
     pub bytes: [u8; 32],
+}
+
+/// A Global PIN with its retry limit, 1 to 15; limit 0 means that there is none.
+#[derive(Clone, Copy, Debug)]
+pub struct StartGlobal {
+    pub limit: u8,
+    pub pin: [u8; 8],
 }
 
 // An object and its value.
@@ -42,6 +49,7 @@ pub struct Start {
     pub puk: [u8; 8],
     pub limit_pin: u8,
     pub limit_puk: u8,
+    pub global: StartGlobal,
     pub admin: KeyBytes,
     pub card_auth: KeyBytes,
     /// In blocks of 64 bytes.
@@ -53,10 +61,7 @@ pub struct Start {
 fn copied(alloc: Global, bytes: &[u8]) -> Result<Vec<u8>, NoMemory>
     ensures { IfOk result (λ copy. copy.items ≡ bytes.now) }
 {
-    match bytes.to_vec(alloc) {
-        Ok(copy) => Ok(copy),
-        Err(_) => Err(NoMemory),
-    }
+    Ok(bytes.to_vec(alloc)?)
 }
 
 fn found_value(objects: &[StartObject], place: usize) -> &[u8]
@@ -86,10 +91,8 @@ impl StartObjects {
         ensures err { OnErr result (self.new ≡ self.old) }
     {
         let value = copied(*self.objects.allocator(), value)?;
-        match self.objects.push(StartObject { id, value }) {
-            Ok(()) => Ok(()),
-            Err(_) => Err(NoMemory),
-        }
+        self.objects.push(StartObject { id, value })?;
+        Ok(())
     }
 
     /// How many objects were added.
@@ -139,6 +142,7 @@ impl Start {
             puk: self.puk,
             limit_pin: self.limit_pin,
             limit_puk: self.limit_puk,
+            global: self.global,
             admin: self.admin,
             card_auth: self.card_auth,
             budget: self.budget,

@@ -1,4 +1,7 @@
-use crate::{Start, StartObjects, object_by_tag, plain_start};
+use crate::{
+    KeyBytes, ObjectId, Start, StartGlobal, StartObjects, discovery_value, object_by_tag,
+    plain_start,
+};
 use std::process::Abort;
 use std::test::Fail;
 
@@ -26,6 +29,7 @@ fn expect_plain(rt: &impl Abort, start: &Start) {
     assert!(rt; start.admin.bytes[..3] == [0x10, 0x11, 0x12]);
     assert!(rt; start.card_auth.bytes[13..16] == [0x0D, 0x0E, 0x0F]);
     assert_eq!(rt; start.random, [0; 32]);
+    assert_eq!(rt; (start.global.limit, start.global.pin), (0, [0; 8]));
     assert_eq!(rt; start.objects.len(), 3);
     assert_eq!(rt; start.objects.find(1), CHUID.as_slice());
     assert_eq!(rt; start.objects.find(9), PRINTED_INFORMATION.as_slice());
@@ -69,4 +73,30 @@ fn moves<T: Send>(value: T) -> T {
 fn a_start_moves_between_threads(rt: HostRuntime) -> Result<(), Fail> {
     expect_plain(&rt, &moves(plain_start(rt.alloc())?));
     Ok(())
+}
+
+fn shared<T: Sync>(value: T) -> T {
+    value
+}
+
+#[test]
+fn a_start_and_its_parts_are_shared_between_threads(rt: HostRuntime) -> Result<(), Fail> {
+    let start = shared(plain_start(rt.alloc())?);
+    expect_plain(&rt, &start);
+    let key: KeyBytes = shared(start.admin);
+    assert_eq!(rt; key.algorithm, 0x08);
+    let global: StartGlobal = shared(start.global);
+    assert_eq!(rt; global.limit, 0);
+    let objects: StartObjects = shared(start.objects);
+    assert_eq!(rt; objects.find(1), CHUID.as_slice());
+    Ok(())
+}
+
+#[test]
+fn a_discovery_object_has_the_name_and_the_policy(rt: HostRuntime) {
+    assert_eq!(rt; ObjectId::discovery().place(), 10);
+    assert_eq!(rt; discovery_value([0x40, 0x00]), DISCOVERY);
+    let with_global = discovery_value([0x60, 0x20]);
+    assert!(rt; with_global[..16] == DISCOVERY[..16]);
+    assert!(rt; with_global[16..] == [0x60, 0x20]);
 }

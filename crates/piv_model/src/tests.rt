@@ -1,6 +1,8 @@
 use crate::Rule::{Always, ContactUse, Never, Pin};
+use crate::status_words::{piece_word, verification_failed};
 use crate::{
-    Interface, KeyId, ObjectId, Rule, object_by_oid, object_by_tag, read_rule, tag, use_rule,
+    Application, Interface, KeyId, ObjectId, Rule, application_by_name, object_by_oid,
+    object_by_tag, read_rule, tag, use_rule,
 };
 use std::process::Abort;
 use std::test::Fail;
@@ -85,4 +87,35 @@ fn nothing_else_is_an_object(rt: HostRuntime) -> Result<(), Fail> {
     assert!(rt; use_rule(KeyId::AdminKey) == ContactUse);
     assert!(rt; use_rule(KeyId::CardAuth) == Always);
     Ok(())
+}
+
+#[test]
+fn an_application_is_found_by_its_names_alone(rt: HostRuntime) {
+    let piv = [
+        0xA0, 0x00, 0x00, 0x03, 0x08, 0x00, 0x00, 0x10, 0x00, 0x01, 0x00,
+    ];
+    for size in 0..12 {
+        let found = application_by_name(&piv[..size]);
+        let named = (size == 9 || size == 11).then_some(Application::Piv);
+        assert!(rt; found == named, "{size}");
+    }
+    let idle = [0xF0, 0x49, 0x44, 0x4C, 0x45];
+    assert!(rt; application_by_name(&idle) == Some(Application::Idle));
+    assert!(rt; application_by_name(&idle[..4]).is_none());
+}
+
+#[test]
+fn status_words_carry_tries_and_bytes(rt: HostRuntime) {
+    for (left, word) in [(0, 0x63C0), (3, 0x63C3), (14, 0x63CE)] {
+        assert_eq!(rt; verification_failed(left), word);
+    }
+    for (left, word) in [
+        (0, 0x9000),
+        (1, 0x6101),
+        (255, 0x61FF),
+        (256, 0x6100),
+        (16_132, 0x6100),
+    ] {
+        assert_eq!(rt; piece_word(left), word);
+    }
 }

@@ -1,6 +1,8 @@
 -- The forms of the data fields of GET DATA and PUT DATA (SP 800-73-4 part 2).
-use Rattle.std.specs.Prelude.{◌≡◌, ◌≢◌, ℕ, ◌≤◌, List, [], ◌∷◌, ◌++◌, length}
+use Rattle.std.specs.Prelude.{◌≡◌, ◌≢◌, ℕ, ◌≤◌, Bool, false, List, [], ◌∷◌, ◌++◌, length, Result, Ok, Err}
 use Rattle.ber_tlv.specs.Elements.{element, AreElements}
+use Rattle.piv_model.specs.Forms.{is_policy}
+use Rattle.piv_objects.specs.declared.malformed.Malformed.{Malformed}
 use Rattle.piv_objects.specs.declared.put.PutFields.{PutFields}
 use Rattle.piv_objects.specs.declared.put.PutFields.TheVariants as lent
 
@@ -15,6 +17,11 @@ IsObjectTag tag = (1 ≤ length tag) × (length tag ≤ 3)
 -- GET DATA: one element 5C with the tag of an object.
 abbrev pub IsTagList : List ℕ → List ℕ → Type 0
 IsTagList bytes tag = AreElements bytes (element 0x5C tag ∷ []) × IsObjectTag tag
+
+-- a PIN usage policy was read, and a card with a Global PIN, or one without, may have it
+abbrev pub is_policy_read : Bool → Result (List ℕ) Malformed → Bool
+is_policy_read has_global (Ok policy) = is_policy has_global policy
+is_policy_read has_global (Err _) = false
 
 -- what PUT DATA carries
 pub data Put : Type 0 where

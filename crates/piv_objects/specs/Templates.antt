@@ -3,8 +3,8 @@ use Rattle.std.specs.Prelude.{◌≡◌, ◌⊎◌, ◌==◌, if◌then◌else�
 use Rattle.std.specs.Option.{option_to_list, option_copied}
 use Rattle.std.specs.List.{AllByRecursion}
 use Rattle.ber_tlv.specs.Elements.{Element, element, AreElements}
-use Rattle.piv_objects.specs.Forms.{IsPartOf}
 use Rattle.piv_model.specs.declared.command.AuthFields.{AuthFields}
+use Rattle.piv_objects.specs.Forms.{IsPartOf}
 
 -- the fields that are there, without where they lie in memory
 pub record Fields : Type 0 where

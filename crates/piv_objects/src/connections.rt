@@ -1,5 +1,4 @@
-//! The connection description.
-
+// The connection description.
 ghost use Rattle.std.specs.Prelude.{◌≡◌, ◌↔◌, ℕ, List, IsTrue, IfOk, OnErr};
 ghost use Rattle.piv_objects.specs.Connections.{IsName, IsConnectionDescription};
 ghost use Rattle.piv_objects.specs.Forms.{IsPartOf};

@@ -1,5 +1,4 @@
-//! One or two elements of known tags.
-
+// One or two elements of known tags.
 ghost use Rattle.std.specs.Prelude.{List, ℕ, [], ◌∷◌, IfOk, OnErr};
 ghost use Rattle.ber_tlv.specs.Elements.{element, BeginsWith, AreElements};
 

@@ -1,5 +1,4 @@
-//! Reading the authenticators of a login.
-
+// Reading the authenticators of a login.
 ghost use Rattle.std.specs.Prelude.{◌↔◌, ℕ, List, IsTrue, IfOk, OnErr};
 ghost use Rattle.piv_objects.specs.Authenticators.{Credential, credential_of, AreParts, IsPin, IsAuthenticator, IsAuthenticatorList, BeginsWithOne, ArePinsIn};
 

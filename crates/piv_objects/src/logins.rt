@@ -1,5 +1,4 @@
-//! The authenticators of a login.
-
+// The authenticators of a login.
 ghost use Rattle.std.specs.Prelude.{◌≡◌, ◌<◌, List, [], length, map, slice_get, Some};
 ghost use Rattle.piv_objects.specs.Authenticators.{Credential, credential_of};
 

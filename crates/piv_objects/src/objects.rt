@@ -1,11 +1,11 @@
-//! GET DATA and the Discovery object.
-
-ghost use Rattle.std.specs.Prelude.{◌≡◌, ◌↔◌, List, ℕ, true, false, drop, IsTrue, IfOk, OnOk, OnErr};
+// GET DATA and the Discovery object.
+ghost use Rattle.std.specs.Prelude.{◌≡◌, ◌↔◌, List, ℕ, Bool, true, drop, IsTrue, IfOk, OnOk, OnErr};
 ghost use Rattle.piv_model.specs.Forms.{is_policy, is_discovery};
-ghost use Rattle.piv_objects.specs.Forms.{IsPartOf, IsObjectTag, IsTagList};
+ghost use Rattle.piv_objects.specs.Forms.{IsPartOf, IsObjectTag, IsTagList, is_policy_read};
 
 use crate::elements::only;
 use crate::malformed::Malformed;
+use piv_model::discovery_value;
 
 // The tag of an object has 1 to 3 bytes.
 fn is_object_tag(tag: &[u8]) -> bool
@@ -29,18 +29,11 @@ pub fn tag_list(body: &[u8]) -> Result<&[u8], Malformed>
     }
 }
 
-// What stands before the policy.
-const DISCOVERY_HEAD: [u8; 16] = [
-    0x4F, 0x0B, 0xA0, 0x00, 0x00, 0x03, 0x08, 0x00, 0x00, 0x10, 0x00, 0x01, 0x00, 0x5F, 0x2F, 0x02,
-];
-
 // A policy that some card may have.
-fn is_policy(policy: &[u8]) -> bool
-    ensures { result ≡ is_policy true policy.now }
+fn is_policy(policy: [u8; 2]) -> bool
+    ensures { result ≡ is_policy true policy }
 {
-    policy == [0x40, 0x00].as_slice()
-        || policy == [0x60, 0x10].as_slice()
-        || policy == [0x60, 0x20].as_slice()
+    matches!(policy, [0x40, 0x00] | [0x60, 0x10] | [0x60, 0x20])
 }
 
 /// The PIN usage policy of a Discovery object: 40 00, 60 10 or 60 20
@@ -49,11 +42,14 @@ fn is_policy(policy: &[u8]) -> bool
 pub fn discovery(value: &[u8]) -> Result<[u8; 2], Malformed>
     ensures ok { OnOk result (is_discovery true value.now ≡ true) }
     ensures policy { IfOk result (λ policy. policy ≡ drop 16 value.now) }
-    ensures err { OnErr result (is_discovery true value.now ≡ false) }
+
+    // It is the form for a card with a Global PIN, or for one without, exactly where its policy is one of such a card.
+    ensures exact { (has_global : Bool) → is_discovery has_global value.now ≡ is_policy_read has_global result }
 {
-    let (front, policy) = value.split_at_checked(16).ok_or(Malformed)?;
-    if front != DISCOVERY_HEAD.as_slice() || !is_policy(policy) {
+    let (_, policy) = value.split_at_checked(16).ok_or(Malformed)?;
+    let policy: [u8; 2] = policy.try_into().or(Err(Malformed))?;
+    if value != discovery_value(policy).as_slice() || !is_policy(policy) {
         return Err(Malformed);
     }
-    policy.try_into().or(Err(Malformed))
+    Ok(policy)
 }

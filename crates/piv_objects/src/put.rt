@@ -1,5 +1,4 @@
-//! PUT DATA.
-
+// PUT DATA.
 ghost use Rattle.std.specs.Prelude.{◌≢◌, ◌↔◌, List, [], ◌∷◌, ℕ, IsTrue, IfOk, OnErr};
 ghost use Rattle.piv_objects.specs.Forms.{IsObjectTag, IsPut, Put, Object, put_of, ArePartsOf};
 

@@ -1,5 +1,4 @@
-//! The dynamic authentication template of GENERAL AUTHENTICATE.
-
+// The dynamic authentication template of GENERAL AUTHENTICATE.
 ghost use Rattle.std.specs.Prelude.{[], ◌∷◌, IfOk, OnErr};
 ghost use Rattle.ber_tlv.specs.Cursors.{element_of};
 ghost use Rattle.piv_objects.specs.Templates.{Fields, fields_of, Adds, Holds, IsTemplate, FieldsStandIn};

@@ -1,6 +1,7 @@
 // A source and a sink in memory, which fail where they are told to.
 ghost use Rattle.std.specs.Prelude.{◌≡◌, ◌≤◌, ◌<◌, ◌⊎◌, ◌↔◌, [], length, take, drop, min, Some, is_some, Contains, IsErr, IsOk, OnOk, OnErr, IfOk, IfSome};
-ghost use Rattle.piv_ports.specs.Ports.{AreFirst, Rises, after_first_bytes, counted, with_bytes};
+ghost use Rattle.std.proofs.Math.Nat.{min-le_right};
+ghost use Rattle.piv_ports.specs.Ports.{AreFirst, IsFlushed, Rises, after_first_bytes, capped, counted, last_count, with_bytes};
 ghost use Rattle.piv_ports.specs.Memory.{MemSourceState, MemSinkState, after_read, after_failed_read, after_write, after_failed_write};
 
 use crate::{Failed, NoMemory, Sink, Source};
@@ -57,24 +58,30 @@ impl MemSource {
 impl Source for MemSource {
     ghost left = { λ s. Some s.left };
 
-    ghost given = { λ s. s.given };
+    ghost given = { λ s. capped s.given };
 
-    ghost faults = { λ s. s.faults };
+    ghost faults = { λ s. capped s.faults };
+
+    ghost given_bounded = { λ s. min-le_right s.given last_count };
+
+    ghost faults_bounded = { λ s. min-le_right s.faults last_count };
 
     fn read(&mut self, out: &mut [u8]) -> Result<usize, Failed>
         ensures fits { IfOk result (λ n. n ≤ length out.old) }
         ensures first { IfOk result (λ n. AreFirst n out.new (Some self.old.left)) }
         ensures rest { IfOk result (λ n. Some self.new.left ≡ after_first_bytes n (Some self.old.left)) }
-        ensures end { IfOk result (λ n. IfSome (Some self.old.left) (λ bytes. 0 < length out.old → (n ≡ 0) ↔ (bytes ≡ []))) }
-        ensures count { IfOk result (λ n. self.new.given ≡ counted self.old.given n) }
-        ensures no_fault { OnOk result (self.new.faults ≡ self.old.faults) }
-        ensures failed { OnErr result (Rises self.old.faults self.new.faults) }
-        ensures nothing_given { OnErr result (self.new.given ≡ self.old.given) }
+        ensures end { IfOk result
+            (λ n. IfSome (Some self.old.left) (λ bytes. 0 < length out.old → (n ≡ 0) ↔ (bytes ≡ []))) }
+        ensures count { IfOk result (λ n. capped self.new.given ≡ counted (capped self.old.given) n) }
+        ensures no_fault { OnOk result (capped self.new.faults ≡ capped self.old.faults) }
+        ensures failed { OnErr result (Rises (capped self.old.faults) (capped self.new.faults)) }
+        ensures nothing_given { OnErr result (capped self.new.given ≡ capped self.old.given) }
         ensures nothing_left_out { OnErr result (Some self.new.left ≡ Some self.old.left) }
 
         // It fails exactly at the reads that it was told.
         ensures cause { IsErr result ↔ Contains self.old.fails (counted self.old.reads 1) }
-        ensures read { IfOk result (λ n. (n ≡ min (length out.old) (length self.old.left)) × (self.new ≡ after_read n self.old)) }
+        ensures fills { IfOk result (λ n. n ≡ min (length out.old) (length self.old.left)) }
+        ensures read { IfOk result (λ n. self.new ≡ after_read n self.old) }
         ensures not_read { OnErr result (self.new ≡ after_failed_read self.old) }
     {
         self.reads = self.reads.saturating_add(1);
@@ -169,21 +176,24 @@ impl Sink for MemSink {
 
     ghost flushed = { λ s. Some s.flushed };
 
-    ghost faults = { λ s. s.faults };
+    ghost faults = { λ s. capped s.faults };
+
+    ghost faults_bounded = { λ s. min-le_right s.faults last_count };
 
     fn write(&mut self, piece: &[u8]) -> Result<usize, Failed>
         ensures fits { IfOk result (λ n. n ≤ length piece.now) }
         ensures some { IfOk result (λ n. 0 < length piece.now → 0 < n) }
         ensures takes { IfOk result (λ n. Some self.new.taken ≡ with_bytes (Some self.old.taken) (take n piece.now)) }
-        ensures no_fault { OnOk result (self.new.faults ≡ self.old.faults) }
-        ensures failed { OnErr result (Rises self.old.faults self.new.faults) }
+        ensures no_fault { OnOk result (capped self.new.faults ≡ capped self.old.faults) }
+        ensures failed { OnErr result (Rises (capped self.old.faults) (capped self.new.faults)) }
         ensures nothing_taken { OnErr result (Some self.new.taken ≡ Some self.old.taken) }
         ensures told { is_some (Some self.new.flushed) ≡ is_some (Some self.old.flushed) }
 
         // It fails exactly at the writes that it was told, and where its room is used.
-        ensures cause { IsErr result ↔ (Contains self.old.fails (counted self.old.writes 1) ⊎ ((self.old.room ≡ 0) × (0 < length piece.now))) }
-        ensures written { IfOk result (λ n. (n ≡ min (min (length piece.now) self.old.step) self.old.room)
-            × (self.new ≡ after_write (take n piece.now) n self.old)) }
+        ensures cause { IsErr result
+            ↔ (Contains self.old.fails (counted self.old.writes 1) ⊎ ((self.old.room ≡ 0) × (0 < length piece.now))) }
+        ensures fills { IfOk result (λ n. n ≡ min (min (length piece.now) self.old.step) self.old.room) }
+        ensures written { IfOk result (λ n. self.new ≡ after_write (take n piece.now) n self.old) }
         ensures not_written { OnErr result (self.new ≡ after_failed_write self.old) }
     {
         self.writes = self.writes.saturating_add(1);
@@ -200,9 +210,9 @@ impl Sink for MemSink {
     }
 
     fn flush(&mut self) -> Result<(), Failed>
-        ensures all { OnOk result (IfSome (Some self.new.flushed) (λ out. IfSome (Some self.old.taken) (λ bytes. out ≡ bytes))) }
-        ensures no_fault { OnOk result (self.new.faults ≡ self.old.faults) }
-        ensures failed { OnErr result (Rises self.old.faults self.new.faults) }
+        ensures all { OnOk result (IsFlushed (Some self.old.taken) (Some self.new.flushed)) }
+        ensures no_fault { OnOk result (capped self.new.faults ≡ capped self.old.faults) }
+        ensures failed { OnErr result (Rises (capped self.old.faults) (capped self.new.faults)) }
         ensures same { Some self.new.taken ≡ Some self.old.taken }
         ensures told { is_some (Some self.new.flushed) ≡ is_some (Some self.old.flushed) }
         ensures ok { IsOk result }

@@ -1,6 +1,6 @@
 // A source of bytes, and a reader of all of them.
 ghost use Rattle.std.specs.Prelude.{◌≡◌, ◌≤◌, ◌<◌, ◌+◌, ◌↔◌, ℕ, List, [], length, Option, Some, IfOk, OnOk, OnErr, IfSome, IsErrOf};
-ghost use Rattle.piv_ports.specs.Ports.{AreFirst, Rises, TakesAtMost, after_first_bytes, counted};
+ghost use Rattle.piv_ports.specs.Ports.{AreFirst, CountsFailure, Rises, TakesAtMost, after_first_bytes, counted, last_count, reach};
 ghost use Rattle.piv_ports.specs.declared.source.ReadStop.TheVariants.{NoMemory};
 
 use std::alloc::{AllocError, Global};
@@ -49,12 +49,18 @@ pub trait Source {
         ensures fits { IfOk result (λ n. n ≤ length out.old) }
         ensures first { IfOk result (λ n. AreFirst n out.new (left self.old)) }
         ensures rest { IfOk result (λ n. left self.new ≡ after_first_bytes n (left self.old)) }
-        ensures end { IfOk result (λ n. IfSome (left self.old) (λ bytes. 0 < length out.old → (n ≡ 0) ↔ (bytes ≡ []))) }
+        ensures end { IfOk result
+            (λ n. IfSome (left self.old) (λ bytes. 0 < length out.old → (n ≡ 0) ↔ (bytes ≡ []))) }
         ensures count { IfOk result (λ n. given self.new ≡ counted (given self.old) n) }
         ensures no_fault { OnOk result (faults self.new ≡ faults self.old) }
         ensures failed { OnErr result (Rises (faults self.old) (faults self.new)) }
         ensures nothing_given { OnErr result (given self.new ≡ given self.old) }
         ensures nothing_left_out { OnErr result (left self.new ≡ left self.old) };
+
+    /// Both counts are of 64 bits.
+    ghost given_bounded: { (s : Self) → given s ≤ last_count };
+
+    ghost faults_bounded: { (s : Self) → faults s ≤ last_count };
 }
 
 const CHUNK: usize = 4096;
@@ -64,12 +70,13 @@ pub fn read_all<S: Source>(alloc: Global, source: &mut S, most: usize) -> Result
     ensures bytes { IfOk result (λ v. IfSome (S.left source.old) (λ bytes. v.items ≡ bytes)) }
     ensures at_end { OnOk result (IfSome (S.left source.old) (λ _. S.left source.new ≡ Some [])) }
     ensures small { IfOk result (λ v. length v.items ≤ most) }
-    ensures no_fault { OnOk result (S.faults source.new ≡ S.faults source.old) }
-    ensures failed { IsErrOf result ReadStop.Failed → Rises (S.faults source.old) (S.faults source.new) }
+    ensures count { IfOk result (λ v. S.given source.new ≡ counted (S.given source.old) (length v.items)) }
+    ensures faults { CountsFailure result (S.faults source.old) (S.faults source.new) }
     ensures too_large { IsErrOf result ReadStop.TooLarge → IfSome (S.left source.old) (λ bytes. most < length bytes) }
-    ensures too_large_count { IsErrOf result ReadStop.TooLarge → S.given source.new ≡ counted (S.given source.old) (most + 1) }
-    ensures same_faults { IsErrOf result ReadStop.TooLarge → S.faults source.new ≡ S.faults source.old }
-    ensures taken { TakesAtMost (most + 1) (S.left source.old) (S.left source.new) (S.given source.old) (S.given source.new) }
+    ensures too_large_count { IsErrOf result ReadStop.TooLarge
+        → S.given source.new ≡ counted (S.given source.old) (most + 1) }
+    ensures taken { TakesAtMost (reach result most)
+        (S.left source.old) (S.left source.new) (S.given source.old) (S.given source.new) }
 {
     let mut bytes = Vec::new(alloc);
     let mut chunk = [0u8; CHUNK];

@@ -67,13 +67,36 @@ fn takes_what_its_room_and_its_step_allow(rt: HostRuntime) -> Result<(), Fail> {
 }
 
 #[test]
-fn std_readers_and_writers_pass_bytes_on(rt: HostRuntime) -> Result<(), Fail> {
+fn a_reader_takes_one_byte_more_than_its_limit_at_most(rt: HostRuntime) -> Result<(), Fail> {
+    let alloc = rt.alloc();
+    let mut from = source(alloc, b"abcde", &[])?;
+    assert_eq!(rt;
+        read_all(alloc, &mut from, 2).map(|read| read.len()),
+        Err(ReadStop::TooLarge)
+    );
+    let mut out = [0; 9];
+    assert_eq!(rt; from.read(&mut out), Ok(2));
+    assert_eq!(rt; &out[..2], b"de".as_slice());
+    Ok(())
+}
+
+#[test]
+fn std_readers_pass_bytes_on(rt: HostRuntime) -> Result<(), Fail> {
     let alloc = rt.alloc();
     let mut from = StdSource::new(Cursor::new(b"abc".as_slice()));
     let read = read_all(alloc, &mut from, 3).map_err(|_| NoMemory)?;
     assert_eq!(rt; read.as_slice(), b"abc".as_slice());
-    let mut to = StdSink::new(Cursor::new(Vec::new(alloc)));
-    assert_eq!(rt; write_all(&mut to, &read), Ok(()));
+    Ok(())
+}
+
+#[test]
+fn std_writers_take_what_is_passed_on(rt: HostRuntime) -> Result<(), Fail> {
+    let alloc = rt.alloc();
+    let mut passed = Vec::new(alloc);
+    let mut to = StdSink::new(&mut passed);
+    assert_eq!(rt; write_all(&mut to, b"abc"), Ok(()));
     assert_eq!(rt; to.flush(), Ok(()));
+    drop(to);
+    assert_eq!(rt; passed.as_slice(), b"abc".as_slice());
     Ok(())
 }

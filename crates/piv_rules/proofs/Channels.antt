@@ -1,5 +1,6 @@
 -- How a connection changes by one entry.
 use Rattle.std.proofs.Common.{◌≡◌, ℕ, true, false, List, ◌∷◌, Option, refl}
+use Rattle.std.proofs.Common.{eq-eqb}
 use Rattle.std.specs.Prelude.{◌==◌}
 use Rattle.piv_model.specs.declared.kinds.Took.{Took}
 use Rattle.piv_model.specs.Commands.{CardCommand}
@@ -8,7 +9,6 @@ use Rattle.piv_model.specs.Base.{profile, Base}
 use Rattle.piv_rules.specs.Asks.{ask}
 use Rattle.piv_rules.specs.Connections.{breaks}
 use Rattle.piv_rules.specs.Channels.{channel, fresh, after_call}
-use Rattle.std.proofs.Common.{eq-eqb}
 
 -- an entry that breaks c puts it back
 pub channel-break : (B : Base) (H : Past) (c : ℕ) (e : CardEntry) → breaks c H e ≡ true → channel B (e ∷ H) c ≡ fresh

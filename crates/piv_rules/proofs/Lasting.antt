@@ -1,12 +1,12 @@
 -- What an accepted command gave lasts until another one gives anew.
 use Rattle.std.proofs.Common.{ap, ◌≡◌, true, [], ◌∷◌, ◌++◌, Option, Some, None, refl, ◌∙◌, unwrap_or}
-use Rattle.std.specs.Prelude.{not, ◌&&◌, is_some}
 use Rattle.std.proofs.Common.{eq-eqb}
+use Rattle.std.specs.Prelude.{not, ◌&&◌, is_some}
 use Rattle.piv_model.specs.declared.kinds.RefId.{RefId}
 use Rattle.piv_model.specs.declared.kinds.RefId.TheVariants.{Pin, Puk, GlobalPin}
 use Rattle.piv_model.specs.Entries.{CardEntry, Past}
-use Rattle.piv_rules.specs.Lookback.{last_of}
 use Rattle.piv_model.specs.Base.{profile}
+use Rattle.piv_rules.specs.Lookback.{last_of}
 use Rattle.piv_rules.specs.Memories.{gave, secret_by, object_by, same_reference}
 use Rattle.piv_rules.specs.HistoryLaws.{none_since, ObjectsLast, SecretsLast, UnblockedPinsLast}
 use Rattle.piv_rules.proofs.Memories.{stored-mem, reference-mem}

@@ -1,24 +1,25 @@
 -- What runs is legal.
 use Rattle.std.proofs.Common.{◌≡◌, ℕ, suc, zero, ◌+◌, ◌-◌, ◌≤◌, Bool, true, false, List, [], ◌∷◌, Option, Some, None, refl, ap, arith, drop, length, inl, inr}
-use Rattle.std.specs.Prelude.{if◌then◌else◌, IsTrue, ◌==◌, not, ◌&&◌, ◌||◌, take, nat_lt, slice_index}
-use Rattle.std.specs.List.{list_any}
-use Rattle.piv_model.specs.declared.history.ActKind.TheVariants as kind
-use Rattle.piv_rules.specs.StatusWords.{is_granted, is_framing_word}
-use Rattle.piv_model.specs.Commands.{CardCommand, CardApdu}
-use Rattle.piv_model.specs.Framing.{framing, after_header, apdu_with}
-use Rattle.std.specs.Prelude.{Result, Ok, Err}
-use Rattle.piv_model.specs.Entries.{CardEntry, Past, Opened, Closed, Call, Part, Rest, Bad, Reset, Cut, Up, Note}
-use Rattle.piv_model.specs.Base.{Base}
-use Rattle.piv_rules.specs.Connections.{breaks, on, is_open, epoch, side}
-use Rattle.piv_rules.specs.Answers.{answer, Reply}
-use Rattle.piv_rules.specs.Legal.{IsLegal, IsAllowed, is_locked, is_full, is_noted, rests_left, open_ones}
-use Rattle.piv_rules.specs.Acts.{CardAct, Connect, Disconnect, Exchange, ResetSide, CutPower, PowerOn, CardAnswer, Records, entries}
-use Rattle.piv_rules.specs.Frames.{Frame, BadFrame, PartFrame, RestFrame, WholeFrame, frame, next_piece, frame_of, chained_frame, single_frame, chain, rest, rest_with, given_length}
-use Rattle.piv_rules.specs.Turns.{IsTurnedBy, Runs, refused, IsExchanged, kind_of, cut_reply}
 use Rattle.std.proofs.Common.{length-take, length-drop, eqb-true, subst}
+use Rattle.std.specs.Prelude.{if◌then◌else◌, IsTrue, ◌==◌, not, ◌&&◌, ◌||◌, take, nat_lt, slice_index, option_map}
+use Rattle.std.specs.Prelude.{Result, Ok, Err}
+use Rattle.std.specs.List.{list_any}
 use Rattle.std.proofs.lemmas.Bool.Decides.{nat_tests}
+use Rattle.piv_model.specs.declared.history.ActKind.TheVariants as kind
 use Rattle.piv_model.specs.declared.history.Refusal.{Refusal}
 use Rattle.piv_model.specs.declared.history.Refusal.TheVariants as why
+use Rattle.piv_model.specs.Commands.{CardCommand, CardApdu}
+use Rattle.piv_model.specs.Chains.{RefusedBy, linked, sized, extended, goes_on}
+use Rattle.piv_model.specs.Framing.{framing, after_header, apdu_with}
+use Rattle.piv_model.specs.Entries.{CardEntry, Past, Opened, Closed, Call, Part, Rest, Bad, Reset, Cut, Up, Note}
+use Rattle.piv_model.specs.Base.{Base}
+use Rattle.piv_rules.specs.StatusWords.{is_granted, is_framing_word}
+use Rattle.piv_rules.specs.Connections.{breaks, is_exchange_on, on, is_open, epoch, side}
+use Rattle.piv_rules.specs.Answers.{answer, Reply}
+use Rattle.piv_rules.specs.Legal.{IsLegal, IsAllowed, is_locked, is_full, is_noted, Fetched, fetched, with_rest, fetch_step, MayFetch, open_ones}
+use Rattle.piv_rules.specs.Acts.{CardAct, Connect, Disconnect, Exchange, ResetSide, CutPower, PowerOn, CardAnswer, Records, entries}
+use Rattle.piv_rules.specs.Frames.{Frame, BadFrame, PartFrame, RestFrame, WholeFrame, frame, next_piece, get_response, fetches, frame_of, frame_by, chain, rest, waiting_step, given_length}
+use Rattle.piv_rules.specs.Turns.{IsTurnedBy, Runs, refused, IsExchanged, kind_of, cut_reply}
 
 above : (known n : ℕ) → nat_lt known n ≡ true → nat_lt 0 n ≡ true
 above known n h = grind (arith, nat_tests)
@@ -116,19 +117,28 @@ next_piece-sound [] most h = refl
 next_piece-sound (b ∷ bs) zero h = absurd (no_zero h)
 next_piece-sound (b ∷ bs) (suc n) h = grind (arith, nat_tests)
 
-chained-sound : (a : CardApdu) (j : CardCommand) → nat_lt 0 a.most ≡ true → is_sound_frame (chained_frame a j) ≡ true
-chained-sound a j h = grind (arith, nat_tests)
+sized-sound : (class most : ℕ) (k : CardCommand) → nat_lt 0 most ≡ true → is_sound_frame (frame_by (sized class k) most) ≡ true
+sized-sound class most k h = grind (arith, nat_tests)
 
-single-sound : (serves : List ℕ) (a : CardApdu) (waiting : List ℕ) → nat_lt 0 a.most ≡ true
-    → is_sound_frame (next_piece waiting a.most) ≡ true
-    → is_sound_frame (single_frame serves a waiting) ≡ true
-single-sound serves a waiting h p = grind (arith, nat_tests)
+linked-sound : (a : CardApdu) (chained : Option CardCommand) → nat_lt 0 a.most ≡ true
+    → is_sound_frame (frame_by (linked chained a) a.most) ≡ true
+linked-sound a chained h = go (goes_on chained a.command) (sized-sound a.class a.most (extended chained a.command) h)
+  where
+    go : (b : Bool) → is_sound_frame (frame_by (sized a.class (extended chained a.command)) a.most) ≡ true
+        → is_sound_frame (frame_by (if b then sized a.class (extended chained a.command) else RefusedBy 0x6883) a.most) ≡ true
+    go true h = h
+    go false h = refl
+
+fetched-sound : (k : CardCommand) (most : ℕ) (waiting : List ℕ) → is_sound_frame (next_piece waiting most) ≡ true
+    → is_sound_frame (get_response k most waiting) ≡ true
+fetched-sound k most waiting h = grind (arith, nat_tests)
 
 frame_of-sound : (serves : List ℕ) (x : Result CardApdu ℕ) (chained : Option CardCommand) (waiting : List ℕ)
     → is_sound_apdu x ≡ true → is_sound_frame (frame_of serves x chained waiting) ≡ true
 frame_of-sound serves (Err w) chained waiting h = h
-frame_of-sound serves (Ok a) (Some j) waiting h = chained-sound a j h
-frame_of-sound serves (Ok a) None waiting h = single-sound serves a waiting h (next_piece-sound waiting a.most h)
+frame_of-sound serves (Ok a) chained waiting h =
+    if-has is_sound_frame (fetches serves a chained) _ _
+    (fetched-sound a.command a.most waiting (next_piece-sound waiting a.most h)) (linked-sound a chained h)
 
 frame-sound : (B : Base) (R : Records) (c : ℕ) (bytes : List ℕ) → is_sound_frame (frame B R c bytes) ≡ true
 unfolding frame
@@ -164,77 +174,100 @@ Gives-turned B R (ResetSide i) e a None t = rw t.0 tt
 Gives-turned B R CutPower e a None t = rw t.0 tt
 Gives-turned B R PowerOn e a None (t, m, is_up, told) = rw is_up tt
 
--- either nothing waits, or what was there before
-at_most_before : (b : Bool) (before : List ℕ) (left : ℕ) → length before ≤ left
-    → length (if b then [] else before) ≤ (if b then 0 else left)
-at_most_before true before left h = omega arith
-at_most_before false before left h = h
+-- how many Rests may come yet
+abbrev left : Option Fetched → ℕ
+left None = 0
+left (Some f) = f.size - (f.rests + 1)
 
--- no more bytes wait than Rests may come
-waits-with : (B : Base) (e : CardEntry) (g : ℕ) (G : Past) (c : ℕ) (before : List ℕ) → Gives B G e g
-    → length before ≤ rests_left B G c → length (rest_with B e g G c before) ≤ rests_left B (e ∷ G) c
-waits-with B (Call d k word block) g G c before gives h = own (d == c) refl
-  where
-    data_left : (b : Bool) → is_granted word ≡ b → d ≡ c
-        → length (if b then drop g (answer B G c k).body else []) ≤ (if b then length (answer B G c k).body - 1 else 0)
-    data_left true is same =
-        let gives_one = let P : ℕ → Type 0 = λ j. 1 ≤ length (answer B G j k).body → 1 ≤ g in subst P same (gives is) in
-        at_least (answer B G c k).body gives_one
-      where
-        at_least : (body : List ℕ) → (1 ≤ length body → 1 ≤ g) → length (drop g body) ≤ length body - 1
-        at_least [] one = let size : length {A = ℕ} (drop g []) ≡ 0 - g = length-drop g [] in omega arith
-        at_least (x ∷ xs) one = let size = length-drop g (x ∷ xs) in let first = one (omega arith) in omega arith
-    data_left false is same = omega arith
+at_least : (given : ℕ) (body : List ℕ) → (1 ≤ length body → 1 ≤ given) → length (drop given body) ≤ length body - 1
+at_least given [] one = let size : length {A = ℕ} (drop given []) ≡ 0 - given = length-drop given [] in omega arith
+at_least given (x ∷ xs) one = let size = length-drop given (x ∷ xs) in let first = one (omega arith) in omega arith
 
-    own : (b : Bool) → (d == c) ≡ b
-        → length (if b then (if is_granted word then drop g (answer B G c k).body else []) else before)
-        ≤ (if b then (if is_granted word then length (answer B G c k).body - 1 else 0) else rests_left B G c)
-    own true is = data_left (is_granted word) refl (eqb-true d c is)
-    own false is = h
-waits-with B (Rest d) g G c before gives h = go (d == c)
-  where
-    go : (b : Bool) → length (if b then drop g before else before) ≤ (if b then rests_left B G c - 1 else rests_left B G c)
-    go true = let size = length-drop g before in omega (arith, gives)
-    go false = h
-waits-with B (Part d) g G c before gives h = at_most_before (d == c) before _ h
-waits-with B (Bad d word) g G c before gives h = at_most_before (d == c) before _ h
-waits-with B (Opened d i shared) g G c before gives h = at_most_before (breaks c G (Opened d i shared)) before _ h
-waits-with B (Closed d) g G c before gives h = h
-waits-with B (Reset i) g G c before gives h = at_most_before (breaks c G (Reset i)) before _ h
-waits-with B (Cut running) g G c before gives h = omega arith
-waits-with B (Up took) g G c before gives h = h
-waits-with B (Note act w) g G c before gives h = h
+-- a granted Call
+waits-call : (B : Base) (G : Past) (c : ℕ) (k : CardCommand) (word g : ℕ)
+    → (is_granted word ≡ true → 1 ≤ length (answer B G c k).body → 1 ≤ g) → (b : Bool) → is_granted word ≡ b
+    → length (if b then drop g (answer B G c k).body else []) ≤ left (if b then Some (record { size = length (answer B G c k).body; rests = 0 }) else None)
+waits-call B G c k word g gives true is = at_least g (answer B G c k).body (gives is)
+waits-call B G c k word g gives false is = omega arith
 
-waits : (B : Base) (R : Records) (c : ℕ) → Runs B R → length (rest B R c) ≤ rests_left B (entries R) c
+waits-rest : (g : ℕ) (before : List ℕ) (f : Option Fetched) → 1 ≤ g → length before ≤ left f
+    → length (drop g before) ≤ left (option_map with_rest f)
+waits-rest g before None one h = let size = length-drop g before in let k : length before ≤ 0 = h in omega arith
+waits-rest g before (Some x) one h = let size = length-drop g before in let k : length before ≤ x.size - (x.rests + 1) = h in omega arith
+
+-- no more bytes wait after an exchange than Rests may come
+waits-step : (B : Base) (e : CardEntry) (g : ℕ) (G : Past) (c : ℕ) (before : List ℕ) (f : Option Fetched) → is_exchange_on c e ≡ true
+    → Gives B G e g → length before ≤ left f → length (waiting_step B G c g e before) ≤ left (fetch_step B G c e f)
+waits-step B (Call d k word block) g G c before f own gives h =
+    let P : ℕ → Type 0 = λ j. is_granted word ≡ true → 1 ≤ length (answer B G j k).body → 1 ≤ g in
+    waits-call B G c k word g (subst P (eqb-true d c own) gives) (is_granted word) refl
+waits-step B (Rest d) g G c before f own gives h = waits-rest g before f gives h
+waits-step B (Part d) g G c before f own gives h = omega arith
+waits-step B (Bad d word) g G c before f own gives h = omega arith
+waits-step B (Opened d i shared) g G c before f own gives h = absurd (cc)
+waits-step B (Closed d) g G c before f own gives h = absurd (cc)
+waits-step B (Reset i) g G c before f own gives h = absurd (cc)
+waits-step B (Cut running) g G c before f own gives h = absurd (cc)
+waits-step B (Up took) g G c before f own gives h = absurd (cc)
+waits-step B (Note act w) g G c before f own gives h = absurd (cc)
+
+by_ifs : (a b : Bool) (ws before : List ℕ) (fs f : Option Fetched) → (b ≡ true → length ws ≤ left fs) → length before ≤ left f
+    → length (if a then [] else if b then ws else before) ≤ left (if a then None else if b then fs else f)
+by_ifs true b ws before fs f step h = omega arith
+by_ifs false true ws before fs f step h = step refl
+by_ifs false false ws before fs f step h = h
+
+waits : (B : Base) (R : Records) (c : ℕ) → Runs B R → length (rest B R c) ≤ left (fetched B (entries R) c)
 unfolding rest
 waits B [] c runs = omega arith
 waits B (r ∷ R) c runs =
-    waits-with B r.entry (given_length r.answer) (entries R) c (rest B R c)
-    (Gives-turned B R r.act r.entry r.answer (refused (entries R) r.act) runs.1) (waits B R c runs.0)
+    let g : ℕ = given_length r.answer in
+    let gives = Gives-turned B R r.act r.entry r.answer (refused (entries R) r.act) runs.1 in
+    let before = waits B R c runs.0 in
+    by_ifs (breaks c (entries R) r.entry) (is_exchange_on c r.entry) (waiting_step B (entries R) c g r.entry (rest B R c)) (rest B R c)
+    (fetch_step B (entries R) c r.entry (fetched B (entries R) c)) (fetched B (entries R) c)
+    (λ own. waits-step B r.entry g (entries R) c (rest B R c) (fetched B (entries R) c) own gives before) before
+
+-- where one may come
+may-fetch : (f : Option Fetched) → 1 ≤ left f → MayFetch f
+may-fetch None h = absurd (let k : 1 ≤ 0 = h in omega arith)
+may-fetch (Some x) h = let k : 1 ≤ x.size - (x.rests + 1) = h in omega arith
 
 abbrev is_rest : Frame → Bool
 is_rest (RestFrame piece w) = true
 is_rest _ = false
 
-no-rest_chained : (a : CardApdu) (j : CardCommand) → is_rest (chained_frame a j) ≡ false
-no-rest_chained a j = grind (arith, nat_tests)
+no-rest_sized : (class most : ℕ) (k : CardCommand) → is_rest (frame_by (sized class k) most) ≡ false
+no-rest_sized class most k = grind (arith, nat_tests)
 
-no-rest_single : (serves : List ℕ) (a : CardApdu) → is_rest (single_frame serves a []) ≡ false
-no-rest_single serves a = grind (arith, nat_tests)
+no-rest_linked : (a : CardApdu) (chained : Option CardCommand) → is_rest (frame_by (linked chained a) a.most) ≡ false
+no-rest_linked a chained = go (goes_on chained a.command) (no-rest_sized a.class a.most (extended chained a.command))
+  where
+    go : (b : Bool) → is_rest (frame_by (sized a.class (extended chained a.command)) a.most) ≡ false
+        → is_rest (frame_by (if b then sized a.class (extended chained a.command) else RefusedBy 0x6883) a.most) ≡ false
+    go true h = h
+    go false h = refl
+
+no-rest_fetched : (k : CardCommand) (most : ℕ) → is_rest (get_response k most []) ≡ false
+no-rest_fetched k most = grind (arith, nat_tests)
 
 no-rest : (serves : List ℕ) (x : Result CardApdu ℕ) (chained : Option CardCommand) → is_rest (frame_of serves x chained []) ≡ false
 no-rest serves (Err w) chained = refl
-no-rest serves (Ok a) (Some j) = no-rest_chained a j
-no-rest serves (Ok a) None = no-rest_single serves a
+no-rest serves (Ok a) chained = go (fetches serves a chained) (no-rest_fetched a.command a.most) (no-rest_linked a chained)
+  where
+    go : (b : Bool) → is_rest (get_response a.command a.most []) ≡ false → is_rest (frame_by (linked chained a) a.most) ≡ false
+        → is_rest (if b then get_response a.command a.most [] else frame_by (linked chained a) a.most) ≡ false
+    go true f l = f
+    go false f l = l
 
 -- where a piece is given, data waited
 rests-of_frame : (B : Base) (R : Records) (c : ℕ) (bytes piece : List ℕ) (w : ℕ) → frame B R c bytes ≡ RestFrame piece w → Runs B R
-    → 1 ≤ rests_left B (entries R) c
+    → MayFetch (fetched B (entries R) c)
 unfolding frame
-rests-of_frame B R c bytes piece w h runs = go (rest B R c) (waits B R c runs) h
+rests-of_frame B R c bytes piece w h runs = may-fetch (fetched B (entries R) c) (go (rest B R c) (waits B R c runs) h)
   where
-    go : (ws : List ℕ) → length ws ≤ rests_left B (entries R) c → frame_of B.serves (framing bytes) (chain R c) ws ≡ RestFrame piece w
-        → 1 ≤ rests_left B (entries R) c
+    go : (ws : List ℕ) → length ws ≤ left (fetched B (entries R) c) → frame_of B.serves (framing bytes) (chain R c) ws ≡ RestFrame piece w
+        → 1 ≤ left (fetched B (entries R) c)
     go [] few k = absurd (let p = ap is_rest k in let q = no-rest B.serves (framing bytes) (chain R c) in cc)
     go (x ∷ xs) few k = omega (arith, few)
 

@@ -15,3 +15,11 @@ pub mod CounterLaws
 pub mod LossLaws
 pub mod ListedWords
 pub mod NoData
+pub mod Numbers
+pub mod ConnectionLaws
+pub mod StandsLaws
+pub mod PlanLaws
+pub mod FrameTies
+pub mod Counting
+pub mod TableLaws
+pub mod ConnectionRows

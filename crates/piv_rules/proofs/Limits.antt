@@ -1,26 +1,26 @@
 -- No reference is compared beyond its limit.
 use Rattle.std.proofs.Common.{◌≡◌, ℕ, suc, zero, ◌+◌, ◌-◌, ◌≤◌, Bool, true, false, List, [], ◌∷◌, Option, Some, None, refl, ap, arith, sym, ◌∙◌}
 use Rattle.std.specs.Prelude.{if◌then◌else◌, IsTrue, ◌&&◌, option_map}
+use Rattle.std.specs.Prelude.{unwrap_or}
 use Rattle.std.proofs.lemmas.Bool.Decides.{nat_tests}
 use Rattle.piv_model.specs.declared.kinds.RefId.{RefId}
 use Rattle.piv_model.specs.declared.kinds.RefId.TheVariants.{Pin, Puk, GlobalPin}
 use Rattle.piv_model.specs.declared.kinds.Took.{Took}
 use Rattle.piv_model.specs.declared.kinds.Took.TheVariants.{Nothing, Spent, Done}
-use Rattle.piv_rules.specs.StatusWords.{is_granted, is_mismatched}
-use Rattle.piv_rules.specs.Memories.{same_reference, fills, spends, tries, mem, running, spends_since, comparisons, is_call, reference_now, did_so, spent_by}
 use Rattle.piv_model.specs.Commands.{CardCommand}
 use Rattle.piv_model.specs.Entries.{CardEntry, Past, Opened, Call, Up}
-use Rattle.piv_rules.specs.Lookback.{count_after, some_entry}
 use Rattle.piv_model.specs.Base.{Base, Profile, profile, is_valid}
 use Rattle.piv_model.specs.Sound.{is_limited, is_limited_if_any}
 use Rattle.piv_model.specs.Memory.{has, Memory, Reference, reference, no_reference}
-use Rattle.std.specs.Prelude.{unwrap_or}
-use Rattle.piv_rules.specs.Asks.{Ask, Compare, Purpose, Verify, Change, Unblock, ask}
 use Rattle.piv_model.specs.Changes.{change_reference, one_less}
+use Rattle.piv_rules.specs.StatusWords.{is_granted, is_mismatched}
+use Rattle.piv_rules.specs.Memories.{same_reference, fills, spends, tries, mem, running, spends_since, comparisons, is_call, reference_now, did_so, spent_by}
+use Rattle.piv_rules.specs.Lookback.{count_after, some_entry}
+use Rattle.piv_rules.specs.Asks.{Ask, Compare, Purpose, Verify, Change, Unblock, ask}
 use Rattle.piv_rules.specs.Effects.{memory_after}
-use Rattle.piv_rules.specs.Answers.{answer, answer_in, answer_to, Situation, situation, is_select, select_reply}
+use Rattle.piv_rules.specs.Answers.{answer, answer_in, answer_to, Situation, situation_of, is_select, select_reply}
 use Rattle.piv_rules.specs.Legal.{IsLegal, IsAllowed}
-use Rattle.piv_rules.specs.Losses.{MayTake}
+use Rattle.piv_rules.specs.Losses.{MayBeSaid}
 use Rattle.piv_rules.specs.HistoryLaws.{SpendsAreLimited, ComparisonsAreLimited}
 use Rattle.piv_rules.proofs.Memories.{mem-step}
 
@@ -98,27 +98,27 @@ left-call : (B : Base) (H : Past) (c : ℕ) (k : CardCommand) (word : ℕ) (r : 
 unfolding answer answer_in
 left-call B H c k word r p purpose is differs asks = go (is_select k) is
   where
-    go : (b : Bool) → word ≡ (if b then select_reply (situation B H c) (ask (profile B) k) else answer_to (situation B H c) (ask (profile B) k)).word → 1 ≤ tries B H r
+    go : (b : Bool) → word ≡ (if b then select_reply (situation_of B H c) (ask (profile B) k) else answer_to (situation_of B H c) (ask (profile B) k)).word → 1 ≤ tries B H r
     go true j = let e : word ≡ 0x9000 = rw asks at j in let f = ap is_mismatched e in absurd (cc)
     go false j =
         let e = rw asks at j in
-        let m : is_mismatched (answer_to (situation B H c) (Compare r p purpose)).word ≡ true = sym (ap is_mismatched e) ∙ differs in
-        let one = left-mismatch (situation B H c) r p purpose m in
+        let m : is_mismatched (answer_to (situation_of B H c) (Compare r p purpose)).word ≡ true = sym (ap is_mismatched e) ∙ differs in
+        let one = left-mismatch (situation_of B H c) r p purpose m in
         let le = tries-mem B H r in omega arith
 
-left-up : (B : Base) (H : Past) (r : RefId) (x : ℕ × CardCommand) → running H ≡ Some x → IsComparison r (ask (profile B) x.1) Spent
-    → ¬ (mem B (Up Spent ∷ H) ≡ mem B (Up Nothing ∷ H)) → (n : ℕ) → tries B H r ≡ n → 1 ≤ n
-left-up B H r x h k differs zero e =
-    absurd (differs (mem-up B H Spent x _ h k.compares ∙ after-spent r k.candidate k.purpose (mem B H)
+left-up : (B : Base) (H : Past) (r : RefId) (a : Ask) → IsComparison r a Spent
+    → ¬ (memory_after a Spent (mem B H) ≡ memory_after a Nothing (mem B H)) → (n : ℕ) → tries B H r ≡ n → 1 ≤ n
+left-up B H r a k differs zero e =
+    absurd (differs (ap (λ b. memory_after b Spent (mem B H)) k.compares ∙ after-spent r k.candidate k.purpose (mem B H)
     ∙ one_less-none r (mem B H) (let le = tries-mem B H r in omega arith)
-    ∙ sym (mem-up B H Nothing x _ h k.compares ∙ after-nothing r k.candidate k.purpose (mem B H))))
-left-up B H r x h k differs (suc n) e = omega arith
+    ∙ sym (ap (λ b. memory_after b Nothing (mem B H)) k.compares ∙ after-nothing r k.candidate k.purpose (mem B H))))
+left-up B H r a k differs (suc n) e = omega arith
 
-up-spends : (B : Base) (H : Past) (r : RefId) (x : ℕ × CardCommand) (took : Took) → running H ≡ Some x
-    → IsComparison r (ask (profile B) x.1) took → MayTake B H took → 1 ≤ tries B H r
-up-spends B H r x Spent h k may = left-up B H r x h k may.1 (tries B H r) refl
-up-spends B H r x Nothing h k may = let e = k.is_spent in absurd (cc)
-up-spends B H r x Done h k may = let e = k.is_spent in absurd (cc)
+up-spends : (B : Base) (H : Past) (r : RefId) (a : Ask) (took : Took)
+    → IsComparison r a took → MayBeSaid (mem B H) (Some a) took → 1 ≤ tries B H r
+up-spends B H r a Spent k may = left-up B H r a k may.1 (tries B H r) refl
+up-spends B H r a Nothing k may = let e = k.is_spent in absurd (cc)
+up-spends B H r a Done k may = let e = k.is_spent in absurd (cc)
 
 left-spends : (B : Base) (H : Past) (e : CardEntry) (r : RefId) → IsAllowed B H e → spends (profile B) r H e ≡ true → 1 ≤ tries B H r
 left-spends B H (Call c k word block) r a h = go (is_granted word) (is_mismatched word) refl h
@@ -127,11 +127,12 @@ left-spends B H (Call c k word block) r a h = go (is_granted word) (is_mismatche
     go true m e j = absurd (let p = spent-comparison r (ask (profile B) k) Done j in let q = p.is_spent in cc)
     go false true e j = let p = spent-comparison r (ask (profile B) k) Spent j in left-call B H c k word r p.candidate p.purpose a.2 e p.compares
     go false false e j = absurd (let p = spent-comparison r (ask (profile B) k) Nothing j in let q = p.is_spent in cc)
-left-spends B H (Up took) r a h = go (running H) refl h
+left-spends B H (Up took) r a h = go (running H) a.1 h
   where
-    go : (o : Option (ℕ × CardCommand)) → running H ≡ o → did_so (profile B) (spent_by r) (option_map (λ x. (x.1, took)) o) ≡ true → 1 ≤ tries B H r
-    go None e j = absurd (cc)
-    go (Some x) e j = up-spends B H r x took e (spent-comparison r (ask (profile B) x.1) took j) a.1
+    go : (o : Option (ℕ × CardCommand)) → MayBeSaid (mem B H) (option_map (λ x. ask (profile B) x.1) o) took
+        → did_so (profile B) (spent_by r) (option_map (λ x. (x.1, took)) o) ≡ true → 1 ≤ tries B H r
+    go None may j = absurd (cc)
+    go (Some x) may j = up-spends B H r (ask (profile B) x.1) took (spent-comparison r (ask (profile B) x.1) took j) may
 left-spends B H (Opened c i shared) r a h = absurd (cc)
 left-spends B H e r a h = absurd (cc)
 

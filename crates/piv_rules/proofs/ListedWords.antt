@@ -3,19 +3,23 @@ use Rattle.std.proofs.Common.{◌≡◌, ◌≤◌, ℕ, ◌-◌, Bool, true, fa
 use Rattle.std.specs.Prelude.{if◌then◌else◌, ◌==◌, not, option_and_then}
 use Rattle.std.proofs.lemmas.Bool.Decides.{nat_tests}
 use Rattle.ber_tlv.specs.Elements.{Element, elements_of}
+use Rattle.piv_model.specs.declared.kinds.Application.{Application}
 use Rattle.piv_model.specs.declared.kinds.RefId.{RefId}
 use Rattle.piv_model.specs.declared.kinds.KeyId.{KeyId}
 use Rattle.piv_model.specs.declared.kinds.KeyId.TheVariants.{AdminKey, CardAuth}
+use Rattle.piv_model.specs.ApplicationNames.{application_named}
 use Rattle.piv_model.specs.Commands.{CardCommand}
 use Rattle.piv_model.specs.Memory.{reference}
 use Rattle.piv_model.specs.Objects.{place_of}
-use Rattle.piv_rules.specs.StatusWords.{tries_word}
 use Rattle.piv_model.specs.Base.{Profile, profile, is_served}
+use Rattle.piv_model.specs.StatusWords.{tries_word}
+use Rattle.piv_rules.specs.declared.table.Conditions.{Conditions}
 use Rattle.piv_rules.specs.Forms.{PutForm, DiscoveryForm, ObjectForm, tag_named, put_named, Field, Absent, Empty, Sixteen, field, fields_of, are_fields}
-use Rattle.piv_rules.specs.Asks.{Ask, Refused, Get, Put, Query, Compare, formed, found, known, keyed, select_ask, get_ask, put_ask, put_asked, verify_ask, verify_form, verified_reference, change_ask, change_form, changed_reference, unblock_ask, authenticate_ask, key_named, auth_meant, meant, ask}
-use Rattle.piv_rules.specs.Answers.{Situation, Reply, only, situation, is_select, is_refused, refusal_word, holds, rule_of, lacks_pending, is_wrong, is_blocked, differs, asks_unknown_login, is_absent, has_no_room, tries_left, data_of, answer, answer_in, answer_to, select_reply}
+use Rattle.piv_rules.specs.Asks.{Ask, Refused, Get, Put, Query, Compare, formed, found, known, keyed, named, select_ask, get_ask, put_ask, put_asked, verify_ask, verify_form, verified_reference, change_ask, change_form, changed_reference, unblock_ask, authenticate_ask, key_named, auth_meant, meant, ask}
+use Rattle.piv_rules.specs.Answers.{Situation, situation_of, is_select, refusal, tries_left, conditions, word_by, answer, answer_in, answer_to, select_reply}
 use Rattle.piv_rules.specs.AnswerWords.{is_refusal_word, RefusalsAreListed, is_answer_word, AnswersAreListed}
 use Rattle.piv_rules.proofs.Limits.{few-tries}
+use Rattle.piv_rules.proofs.TableLaws.{answer_to-word}
 
 abbrev is_listed : Ask → Bool
 is_listed (Refused w) = is_refusal_word w
@@ -37,8 +41,12 @@ keyed-listed : (o : Option KeyId) (f : KeyId → Ask) → ((x : KeyId) → is_li
 keyed-listed None f h = refl
 keyed-listed (Some x) f h = h x
 
+named-listed : (o : Option Application) → is_listed (named o) ≡ true
+named-listed None = refl
+named-listed (Some a) = refl
+
 select-listed : (k : CardCommand) → is_listed (select_ask k) ≡ true
-select-listed k = grind (arith, nat_tests)
+select-listed k = let h = named-listed (application_named k.body) in grind (arith, nat_tests)
 
 get-listed : (k : CardCommand) → is_listed (get_ask k) ≡ true
 get-listed k =
@@ -134,9 +142,13 @@ RefusalsAreListed-law B k w h = sym (ap is_listed h) ∙ ask-listed (profile B) 
 
 -- ---- answers
 
-refused-listed : (a : Ask) → is_listed a ≡ true → is_refused a ≡ true → is_refusal_word (refusal_word a) ≡ true
-refused-listed (Refused w) h r = h
-refused-listed a h r = absurd (cc)
+abbrev is_refusal_if_any : Option ℕ → Bool
+is_refusal_if_any None = true
+is_refusal_if_any (Some w) = is_refusal_word w
+
+refused-listed : (a : Ask) → is_listed a ≡ true → is_refusal_if_any (refusal a) ≡ true
+refused-listed (Refused w) h = h
+refused-listed a h = refl
 
 few-left : (s : Situation) (a : Ask) → ((r : RefId) → (reference s.memory r).tries ≤ 15) → tries_left s.memory a ≤ 15
 few-left s (Compare r p purpose) few = few r
@@ -150,38 +162,38 @@ refusal-listed : (w : ℕ) → is_refusal_word w ≡ true → is_answer_word w �
 refusal-listed w h = rw h refl
 
 -- the word of the first line that fits
-one-word : (piv refused held lacks wrong blocked unequal unknown absent full : Bool) (w n : ℕ) (last : Reply) → n ≤ 15
-    → (refused ≡ true → is_answer_word w ≡ true) → is_answer_word last.word ≡ true
-    → is_answer_word (if not piv then only 0x6D00
-    else if refused then only w
-    else if not held then only 0x6982
-    else if lacks then only 0x6A80
-    else if wrong then only 0x6982
-    else if blocked then only 0x6983
-    else if unequal then only (tries_word (n - 1))
-    else if unknown then only (tries_word n)
-    else if absent then only 0x6A82
-    else if full then only 0x6A84
-    else last).word ≡ true
-one-word false refused held lacks wrong blocked unequal unknown absent full w n last few h k = refl
-one-word true true held lacks wrong blocked unequal unknown absent full w n last few h k = h refl
-one-word true false false lacks wrong blocked unequal unknown absent full w n last few h k = refl
-one-word true false true true wrong blocked unequal unknown absent full w n last few h k = refl
-one-word true false true false true blocked unequal unknown absent full w n last few h k = refl
-one-word true false true false false true unequal unknown absent full w n last few h k = refl
-one-word true false true false false false true unknown absent full w n last few h k = mismatch-listed (n - 1) (omega (arith, few))
-one-word true false true false false false false true absent full w n last few h k = mismatch-listed n few
-one-word true false true false false false false false true full w n last few h k = refl
-one-word true false true false false false false false false true w n last few h k = refl
-one-word true false true false false false false false false false w n last few h k = k
+later-listed : (held lacks wrong blocked unequal unknown absent full : Bool) (n : ℕ) → n ≤ 15
+    → is_answer_word (if not held then 0x6982
+    else if lacks then 0x6A80
+    else if wrong then 0x6982
+    else if blocked then 0x6983
+    else if unequal then tries_word (n - 1)
+    else if unknown then tries_word n
+    else if absent then 0x6A82
+    else if full then 0x6A84
+    else 0x9000) ≡ true
+later-listed false lacks wrong blocked unequal unknown absent full n few = refl
+later-listed true true wrong blocked unequal unknown absent full n few = refl
+later-listed true false true blocked unequal unknown absent full n few = refl
+later-listed true false false true unequal unknown absent full n few = refl
+later-listed true false false false true unknown absent full n few = mismatch-listed (n - 1) (omega (arith, few))
+later-listed true false false false false true absent full n few = mismatch-listed n few
+later-listed true false false false false false true full n few = refl
+later-listed true false false false false false false true n few = refl
+later-listed true false false false false false false false n few = refl
+
+word_by-listed : (t : Conditions) → is_refusal_if_any t.refusal ≡ true → t.tries ≤ 15 → is_answer_word (word_by t) ≡ true
+word_by-listed t listed few = go t.piv t.refusal listed (later-listed t.permitted t.lacks_pending t.wrong t.blocked t.differs t.unknown_login t.absent t.no_room t.tries few)
+  where
+    go : (piv : Bool) (refused : Option ℕ) → is_refusal_if_any refused ≡ true → is_answer_word (word_by (record t { piv = true; refusal = None })) ≡ true
+        → is_answer_word (word_by (record t { piv = piv; refusal = refused })) ≡ true
+    go false o h k = refl
+    go true (Some w) h k = refusal-listed w h
+    go true None h k = k
 
 answer_to-listed : (s : Situation) (a : Ask) → is_listed a ≡ true → tries_left s.memory a ≤ 15 → is_answer_word (answer_to s a).word ≡ true
-unfolding answer_to
 answer_to-listed s a listed few =
-    one-word s.piv (is_refused a) (holds s (rule_of s.interface a)) (lacks_pending s.pending a) (is_wrong s.memory.admin s.pending a)
-    (is_blocked s.memory a) (differs s.memory a) (asks_unknown_login s a) (is_absent s.memory a) (has_no_room s.memory a)
-    (refusal_word a) (tries_left s.memory a) (record { word = 0x9000; body = data_of s a }) few
-    (λ h. refusal-listed (refusal_word a) (refused-listed a listed h)) refl
+    ap is_answer_word (answer_to-word s a) ∙ word_by-listed (conditions s a) (refused-listed a listed) few
 
 select-word : (s : Situation) (a : Ask) → is_listed a ≡ true → is_answer_word (select_reply s a).word ≡ true
 select-word s (Refused w) h = refusal-listed w h
@@ -191,8 +203,8 @@ pub AnswersAreListed-law : AnswersAreListed
 unfolding answer answer_in
 AnswersAreListed-law B H c k valid = go (is_select k)
   where
-    go : (b : Bool) → is_answer_word (if b then select_reply (situation B H c) (ask (profile B) k) else answer_to (situation B H c) (ask (profile B) k)).word ≡ true
-    go true = select-word (situation B H c) (ask (profile B) k) (ask-listed (profile B) k)
+    go : (b : Bool) → is_answer_word (if b then select_reply (situation_of B H c) (ask (profile B) k) else answer_to (situation_of B H c) (ask (profile B) k)).word ≡ true
+    go true = select-word (situation_of B H c) (ask (profile B) k) (ask-listed (profile B) k)
     go false =
-        answer_to-listed (situation B H c) (ask (profile B) k) (ask-listed (profile B) k)
-        (few-left (situation B H c) (ask (profile B) k) (few-tries B H valid))
+        answer_to-listed (situation_of B H c) (ask (profile B) k) (ask-listed (profile B) k)
+        (few-left (situation_of B H c) (ask (profile B) k) (few-tries B H valid))

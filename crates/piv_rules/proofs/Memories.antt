@@ -1,8 +1,8 @@
 -- How the memory changes by one entry.
 use Rattle.std.proofs.Common.{◌≡◌, ℕ, suc, zero, ◌+◌, ◌-◌, [], ◌∷◌, Option, Some, None, true, refl, ap, unwrap_or, arith, ◌∙◌, eq-eqb, ne_eqb, ◌<◌, ◌≤◌}
-use Rattle.std.proofs.lemmas.List.FromFn.{get_or-map-range_with_len}
-use Rattle.std.specs.List.{range_with_len}
 use Rattle.std.specs.Prelude.{if◌then◌else◌, IsTrue, ◌==◌, map, slice_set, option_map, option_and_then, is_some}
+use Rattle.std.specs.List.{range_with_len}
+use Rattle.std.proofs.lemmas.List.FromFn.{get_or-map-range_with_len}
 use Rattle.piv_model.specs.declared.kinds.RefId.{RefId}
 use Rattle.piv_model.specs.declared.kinds.RefId.TheVariants.{Pin, Puk, GlobalPin}
 use Rattle.piv_model.specs.declared.kinds.Took.{Took}
@@ -11,9 +11,9 @@ use Rattle.piv_model.specs.Commands.{CardCommand}
 use Rattle.piv_model.specs.Entries.{CardEntry, Past}
 use Rattle.piv_model.specs.Base.{Profile, profile, profile_of, Base}
 use Rattle.piv_model.specs.Memory.{Memory, Reference, stored, has, no_reference, reference}
+use Rattle.piv_model.specs.Changes.{change_reference, full, renewed, one_less}
 use Rattle.piv_rules.specs.Asks.{Ask, Refused, Select, Get, Put, Logout, Query, Compare, Internal, AskChallenge, External, AskWitness, Mutual, Verify, Change, Unblock, ask}
 use Rattle.piv_rules.specs.Memories.{did, mem, object, reference_now, filled_by, did_so, spent_by, secret_by, object_by}
-use Rattle.piv_model.specs.Changes.{change_reference, full, renewed, one_less}
 use Rattle.piv_rules.specs.Effects.{memory_by, memory_after}
 use Rattle.piv_rules.proofs.Steps.{tries-step}
 

@@ -1,9 +1,10 @@
 -- A refusal has no data.
-use Rattle.std.proofs.Common.{◌≡◌, ℕ, Bool, true, false, [], refl}
+use Rattle.std.proofs.Common.{◌≡◌, ℕ, Bool, true, false, List, [], Option, Some, None, refl}
 use Rattle.std.specs.Prelude.{if◌then◌else◌, not}
 use Rattle.piv_model.specs.Base.{profile}
+use Rattle.piv_rules.specs.declared.table.Conditions.{Conditions}
 use Rattle.piv_rules.specs.Asks.{Ask, Refused, Select, Get, Put, Logout, Query, Compare, Internal, AskChallenge, External, AskWitness, Mutual, ask}
-use Rattle.piv_rules.specs.Answers.{Situation, situation, Reply, only, answer, answer_in, answer_to, select_reply, is_select, is_refused, refusal_word, holds, rule_of, lacks_pending, is_wrong, is_blocked, differs, asks_unknown_login, is_absent, has_no_room}
+use Rattle.piv_rules.specs.Answers.{Situation, situation_of, Reply, only, data_of, conditions, unless, by_table, answer, answer_in, answer_to, select_reply, is_select}
 use Rattle.piv_rules.specs.AnswerWords.{RefusalsHaveNoData}
 
 abbrev HasNoData : Reply → Type 0
@@ -30,23 +31,30 @@ no-data-select s (External x) other = absurd (other refl)
 no-data-select s AskWitness other = absurd (other refl)
 no-data-select s (Mutual w x) other = absurd (other refl)
 
+none-unless : (o : Option ℕ) (x : Reply) → HasNoData x → HasNoData (unless o only x)
+none-unless None x h = h
+none-unless (Some w) x h = alone w
+
+no-data-by : (t : Conditions) (body : List ℕ) → HasNoData (by_table only (record { word = 0x9000; body = body }) t)
+no-data-by t body =
+    either (not t.piv) (only 0x6D00) _ (alone 0x6D00)
+    (none-unless t.refusal _
+    (either (not t.permitted) (only 0x6982) _ (alone 0x6982)
+    (either t.lacks_pending (only 0x6A80) _ (alone 0x6A80)
+    (either t.wrong (only 0x6982) _ (alone 0x6982)
+    (either t.blocked (only 0x6983) _ (alone 0x6983)
+    (either t.differs _ _ (alone _)
+    (either t.unknown_login _ _ (alone _)
+    (either t.absent (only 0x6A82) _ (alone 0x6A82)
+    (either t.no_room (only 0x6A84) _ (alone 0x6A84)
+    (λ other. absurd (other refl)))))))))))
+
 no-data-to : (s : Situation) (a : Ask) → HasNoData (answer_to s a)
 unfolding answer_to
-no-data-to s a =
-    either (not s.piv) (only 0x6D00) _ (alone 0x6D00)
-    (either (is_refused a) (only (refusal_word a)) _ (alone (refusal_word a))
-    (either (not (holds s (rule_of s.interface a))) (only 0x6982) _ (alone 0x6982)
-    (either (lacks_pending s.pending a) (only 0x6A80) _ (alone 0x6A80)
-    (either (is_wrong s.memory.admin s.pending a) (only 0x6982) _ (alone 0x6982)
-    (either (is_blocked s.memory a) (only 0x6983) _ (alone 0x6983)
-    (either (differs s.memory a) _ _ (alone _)
-    (either (asks_unknown_login s a) _ _ (alone _)
-    (either (is_absent s.memory a) (only 0x6A82) _ (alone 0x6A82)
-    (either (has_no_room s.memory a) (only 0x6A84) _ (alone 0x6A84)
-    (λ other. absurd (other refl)))))))))))
+no-data-to s a = no-data-by (conditions s a) (data_of s a)
 
 pub RefusalsHaveNoData-law : RefusalsHaveNoData
 unfolding answer answer_in
 RefusalsHaveNoData-law B H c k =
-    either (is_select k) (select_reply (situation B H c) (ask (profile B) k)) (answer_to (situation B H c) (ask (profile B) k))
-    (no-data-select (situation B H c) (ask (profile B) k)) (no-data-to (situation B H c) (ask (profile B) k))
+    either (is_select k) (select_reply (situation_of B H c) (ask (profile B) k)) (answer_to (situation_of B H c) (ask (profile B) k))
+    (no-data-select (situation_of B H c) (ask (profile B) k)) (no-data-to (situation_of B H c) (ask (profile B) k))

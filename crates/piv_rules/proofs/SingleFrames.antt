@@ -4,12 +4,13 @@ use Rattle.std.specs.Prelude.{if◌then◌else◌, ◌==◌, not, nat_lt, take, 
 use Rattle.std.proofs.lemmas.Bool.Decides.{nat_tests}
 use Rattle.piv_model.specs.declared.history.Refusal.{Refusal}
 use Rattle.piv_model.specs.Commands.{CardCommand, CardApdu}
+use Rattle.piv_model.specs.Chains.{RefusedBy, linked, sized, extended, goes_on}
 use Rattle.piv_model.specs.Framing.{framing, after_header, apdu_with}
 use Rattle.piv_model.specs.Entries.{CardEntry, Past, Opened, Closed, Call, Part, Rest, Bad, Reset, Cut, Up, Note}
 use Rattle.piv_model.specs.Base.{Base, is_served}
-use Rattle.piv_rules.specs.Connections.{breaks}
+use Rattle.piv_rules.specs.Connections.{breaks, is_exchange_on}
 use Rattle.piv_rules.specs.Acts.{CardAct, Connect, Disconnect, Exchange, ResetSide, CutPower, PowerOn, CardAnswer, Records, entries}
-use Rattle.piv_rules.specs.Frames.{Frame, BadFrame, PartFrame, RestFrame, WholeFrame, frame, frame_of, single_frame, chained_frame, next_piece, chain, rest, parts, parts_with, commands_of}
+use Rattle.piv_rules.specs.Frames.{Frame, BadFrame, PartFrame, RestFrame, WholeFrame, frame, frame_of, frame_by, fetches, get_response, next_piece, chain, rest, parts, part_step, commands_of}
 use Rattle.piv_rules.specs.Turns.{IsTurnedBy, Runs, refused, IsExchanged}
 
 -- class 00
@@ -47,18 +48,30 @@ no-part_next : (waiting : List ℕ) (most : ℕ) → is_part (next_piece waiting
 no-part_next [] most = refl
 no-part_next (b ∷ bs) most = refl
 
-no-part_chained : (a : CardApdu) (j : CardCommand) → (a.class == 0x00) ≡ true → is_part (chained_frame a j) ≡ false
-no-part_chained a j h = grind (arith, nat_tests)
+no-part_sized : (class most : ℕ) (k : CardCommand) → (class == 0x00) ≡ true → is_part (frame_by (sized class k) most) ≡ false
+no-part_sized class most k h = grind (arith, nat_tests)
 
-no-part_single : (serves : List ℕ) (a : CardApdu) (waiting : List ℕ) → (a.class == 0x00) ≡ true
-    → is_part (next_piece waiting a.most) ≡ false → is_part (single_frame serves a waiting) ≡ false
-no-part_single serves a waiting h without = grind (arith, nat_tests)
+no-part_linked : (a : CardApdu) (chained : Option CardCommand) → (a.class == 0x00) ≡ true → is_part (frame_by (linked chained a) a.most) ≡ false
+no-part_linked a chained h = go (goes_on chained a.command) (no-part_sized a.class a.most (extended chained a.command) h)
+  where
+    go : (b : Bool) → is_part (frame_by (sized a.class (extended chained a.command)) a.most) ≡ false
+        → is_part (frame_by (if b then sized a.class (extended chained a.command) else RefusedBy 0x6883) a.most) ≡ false
+    go true h = h
+    go false h = refl
+
+no-part_fetched : (k : CardCommand) (most : ℕ) (waiting : List ℕ) → is_part (next_piece waiting most) ≡ false → is_part (get_response k most waiting) ≡ false
+no-part_fetched k most waiting h = grind (arith, nat_tests)
 
 no-part : (serves : List ℕ) (x : Result CardApdu ℕ) (chained : Option CardCommand) (waiting : List ℕ) → is_last x ≡ true
     → is_part (frame_of serves x chained waiting) ≡ false
 no-part serves (Err w) chained waiting h = refl
-no-part serves (Ok a) (Some j) waiting h = no-part_chained a j h
-no-part serves (Ok a) None waiting h = no-part_single serves a waiting h (no-part_next waiting a.most)
+no-part serves (Ok a) chained waiting h =
+    go (fetches serves a chained) (no-part_fetched a.command a.most waiting (no-part_next waiting a.most)) (no-part_linked a chained h)
+  where
+    go : (b : Bool) → is_part (get_response a.command a.most waiting) ≡ false → is_part (frame_by (linked chained a) a.most) ≡ false
+        → is_part (if b then get_response a.command a.most waiting else frame_by (linked chained a) a.most) ≡ false
+    go true f l = f
+    go false f l = l
 
 no-part_frame : (B : Base) (R : Records) (c : ℕ) (bytes : List ℕ) → is_part (frame B R c bytes) ≡ false
 unfolding frame
@@ -86,28 +99,29 @@ no-part_turned B R (ResetSide i) e a None t = rw t.0 refl
 no-part_turned B R CutPower e a None t = rw t.0 refl
 no-part_turned B R PowerOn e a None (t, m, is_up, told) = rw is_up refl
 
-either : (b : Bool) (before : List CardCommand) → before ≡ [] → (if b then [] else before) ≡ []
-either true before h = refl
-either false before h = h
+part_step-none : (ks : List CardCommand) (e : CardEntry) (before : List CardCommand) → is_part_entry e ≡ false → part_step ks e before ≡ []
+part_step-none ks (Part d) before without = absurd (cc)
+part_step-none ks (Call d k word block) before without = refl
+part_step-none ks (Rest d) before without = refl
+part_step-none ks (Bad d word) before without = refl
+part_step-none ks (Opened d i shared) before without = refl
+part_step-none ks (Closed d) before without = refl
+part_step-none ks (Reset i) before without = refl
+part_step-none ks (Cut r) before without = refl
+part_step-none ks (Up t) before without = refl
+part_step-none ks (Note act w) before without = refl
 
-parts_with-none : (e : CardEntry) (ks : List CardCommand) (G : Past) (c : ℕ) (before : List CardCommand) → is_part_entry e ≡ false
-    → before ≡ [] → parts_with e ks G c before ≡ []
-parts_with-none (Part d) ks G c before without h = absurd (cc)
-parts_with-none (Call d k word block) ks G c before without h = either (d == c) before h
-parts_with-none (Rest d) ks G c before without h = either (d == c) before h
-parts_with-none (Bad d word) ks G c before without h = either (d == c) before h
-parts_with-none (Opened d i shared) ks G c before without h = either (breaks c G (Opened d i shared)) before h
-parts_with-none (Closed d) ks G c before without h = h
-parts_with-none (Reset i) ks G c before without h = either (breaks c G (Reset i)) before h
-parts_with-none (Cut r) ks G c before without h = refl
-parts_with-none (Up t) ks G c before without h = h
-parts_with-none (Note act w) ks G c before without h = h
+by_ifs : (a b : Bool) (step before : List CardCommand) → step ≡ [] → before ≡ [] → (if a then [] else if b then step else before) ≡ []
+by_ifs true b step before s h = refl
+by_ifs false true step before s h = s
+by_ifs false false step before s h = h
 
 parts-none : (B : Base) (R : Records) (c : ℕ) → Runs B R → parts R c ≡ []
 parts-none B [] c runs = refl
 parts-none B (r ∷ R) c runs =
-    parts_with-none r.entry (commands_of r.act) (entries R) c (parts R c)
-    (no-part_turned B R r.act r.entry r.answer (refused (entries R) r.act) runs.1) (parts-none B R c runs.0)
+    by_ifs (breaks c (entries R) r.entry) (is_exchange_on c r.entry) (part_step (commands_of r.act) r.entry (parts R c)) (parts R c)
+    (part_step-none (commands_of r.act) r.entry (parts R c) (no-part_turned B R r.act r.entry r.answer (refused (entries R) r.act) runs.1))
+    (parts-none B R c runs.0)
 
 -- no chain is ever open
 pub chain-none : (B : Base) (R : Records) (c : ℕ) → Runs B R → chain R c ≡ None
@@ -120,7 +134,7 @@ unfolding frame
 frame-bad B R c w bytes h = rw h refl
 
 single-whole : (serves : List ℕ) (a : CardApdu) (waiting : List ℕ) → (a.class == 0x00) ≡ true → is_served serves 0xC0 ≡ false
-    → length a.command.body ≤ 16640 → single_frame serves a waiting ≡ WholeFrame a.command a.most
+    → length a.command.body ≤ 16640 → frame_of serves (Ok a) None waiting ≡ WholeFrame a.command a.most
 single-whole serves a waiting h without short = grind (arith, nat_tests)
 
 -- bytes that framing reads

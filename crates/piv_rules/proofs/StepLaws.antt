@@ -1,5 +1,5 @@
--- The steps of a history, as the laws name them.
-use Rattle.piv_rules.proofs.Steps.{selected-step, in_force-step, pending-step, tries-step, secret-step, object-step}
+-- The steps of the tries and of the memory, as the laws name them.
+use Rattle.piv_rules.proofs.Steps.{tries-step}
 use Rattle.piv_rules.proofs.Memories.{mem-step}
 
-pub ruleset step_laws = (selected-step, in_force-step, pending-step, tries-step, secret-step, object-step, mem-step)
+pub ruleset step_laws = (tries-step, mem-step)

@@ -3,10 +3,11 @@ use Rattle.std.proofs.Common.{◌≡◌, ℕ, ◌+◌, ◌-◌, Bool, true, fals
 use Rattle.std.specs.Prelude.{if◌then◌else◌}
 use Rattle.piv_model.specs.declared.kinds.RefId.{RefId}
 use Rattle.piv_model.specs.Entries.{CardEntry, Past}
-use Rattle.piv_rules.specs.Lookback.{count_after, some_entry}
 use Rattle.piv_model.specs.Base.{profile, Base}
 use Rattle.piv_model.specs.Memory.{reference}
-use Rattle.piv_rules.specs.Logins.{Login, in_force, login_after, pending, NonePending, pending_after}
+use Rattle.piv_rules.specs.declared.lookback.Login.{Login}
+use Rattle.piv_rules.specs.Lookback.{count_after, some_entry}
+use Rattle.piv_rules.specs.Logins.{in_force, login_after, pending, NonePending, pending_after}
 use Rattle.piv_rules.specs.Connections.{selected_after, selected, on_connection}
 use Rattle.piv_rules.specs.Memories.{tries, fills, spends, object, object_by, gave, secret, secret_by}
 use Rattle.piv_rules.specs.Legal.{IsLegal, IsAllowed}

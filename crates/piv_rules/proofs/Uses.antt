@@ -10,15 +10,21 @@ use Rattle.piv_model.specs.declared.kinds.RefId.{RefId}
 use Rattle.piv_model.specs.Commands.{CardCommand}
 use Rattle.piv_model.specs.Entries.{CardEntry, Past, Opened, Closed, Call, Part, Rest, Bad, Reset, Cut, Up, Note}
 use Rattle.piv_model.specs.Memory.{Memory, reference}
-use Rattle.piv_rules.specs.StatusWords.{is_granted, tries_word}
 use Rattle.piv_model.specs.Base.{Base, profile}
+use Rattle.piv_model.specs.StatusWords.{tries_word}
+use Rattle.piv_rules.specs.declared.lookback.Login.{Login}
+use Rattle.piv_rules.specs.declared.lookback.Login.TheVariants as login
+use Rattle.piv_rules.specs.declared.table.Conditions.{Conditions}
+use Rattle.piv_rules.specs.StatusWords.{is_granted}
 use Rattle.piv_rules.specs.Asks.{Ask, Refused, Query, Compare, ask}
 use Rattle.piv_rules.specs.Connections.{side, breaks, by_call}
-use Rattle.piv_rules.specs.Logins.{Login, PinLogin, GlobalLogin, AdminLogin, login_after, in_force}
+use Rattle.piv_rules.specs.Logins.{login_after, in_force}
 use Rattle.piv_rules.specs.Memories.{mem}
-use Rattle.piv_rules.specs.Answers.{Situation, situation, Reply, only, answer, answer_in, answer_to, holds, rule_of, is_contact, is_refused, refusal_word, is_wrong, is_blocked, differs, lacks_pending, asks_unknown_login, is_absent, has_no_room, tries_left, global_counts, data_of}
+use Rattle.piv_rules.specs.Answers.{Situation, situation_of, answer, answer_in, answer_to, holds, rule_of, is_contact, refusal, tries_left, global_counts, conditions, word_by}
+use Rattle.piv_rules.specs.Channels.{channel}
+use Rattle.piv_rules.specs.HistoryLaws.{IsLoggedIn, IsEntitled, UsesAreEntitled, OnlyWrongResponsesAreDenied}
 use Rattle.piv_rules.proofs.Limits.{few-tries}
-use Rattle.piv_rules.specs.HistoryLaws.{IsLoggedIn, IsEntitled, UsesAreEntitled, EntitledAreServed}
+use Rattle.piv_rules.proofs.TableLaws.{answer_to-word}
 
 -- ---- logins
 
@@ -105,76 +111,72 @@ or-either true b h = inl refl
 or-either false b h = inr h
 
 pin_entitled : (B : Base) (H : Past) (c : ℕ)
-    → (in_force B H c PinLogin ≡ true) ⊎ ((in_force B H c GlobalLogin && global_counts (mem B H)) ≡ true)
-    → IsLoggedIn B H c PinLogin ⊎ (IsLoggedIn B H c GlobalLogin × (global_counts (mem B H) ≡ true))
-pin_entitled B H c (inl h) = inl (logged_in B H c PinLogin h)
-pin_entitled B H c (inr h) = inr (logged_in B H c GlobalLogin (and-first _ _ h), and-last (in_force B H c GlobalLogin) _ h)
+    → (in_force B H c login.Pin ≡ true) ⊎ ((in_force B H c login.Global && global_counts (mem B H)) ≡ true)
+    → IsLoggedIn B H c login.Pin ⊎ (IsLoggedIn B H c login.Global × (global_counts (mem B H) ≡ true))
+pin_entitled B H c (inl h) = inl (logged_in B H c login.Pin h)
+pin_entitled B H c (inr h) = inr (logged_in B H c login.Global (and-first _ _ h), and-last (in_force B H c login.Global) _ h)
 
-entitled-holds : (B : Base) (H : Past) (c : ℕ) (r : Rule) → holds (situation B H c) r ≡ true → IsEntitled B H c r
+entitled-holds : (B : Base) (H : Past) (c : ℕ) (r : Rule) → holds (situation_of B H c) r ≡ true → IsEntitled B H c r
+unfolding channel
 entitled-holds B H c rule.Always h = tt
 entitled-holds B H c rule.ContactUse h = contact (side H c) h
 entitled-holds B H c rule.Pin h =
-    (contact (side H c) (and-first _ _ h), pin_entitled B H c (or-either (in_force B H c PinLogin) _ (and-last (is_contact (side H c)) _ h)))
+    (contact (side H c) (and-first _ _ h), pin_entitled B H c (or-either (in_force B H c login.Pin) _ (and-last (is_contact (side H c)) _ h)))
 entitled-holds B H c rule.Admin h =
-    (contact (side H c) (and-first _ _ h), logged_in B H c AdminLogin (and-last (is_contact (side H c)) _ h))
+    (contact (side H c) (and-first _ _ h), logged_in B H c login.Admin (and-last (is_contact (side H c)) _ h))
 entitled-holds B H c rule.Never h = absurd (cc)
 entitled-holds B H c rule.Response h = absurd (cc)
 
 -- ---- answers
 
-refused-holds : (s : Situation) (a : Ask) → is_refused a ≡ true → holds s (rule_of s.interface a) ≡ true
-refused-holds s (Refused w) h = refl
-refused-holds s a h = absurd (cc)
+refused-holds : (s : Situation) (a : Ask) (w : ℕ) → refusal a ≡ Some w → holds s (rule_of s.interface a) ≡ true
+refused-holds s (Refused v) w h = refl
+refused-holds s a w h = absurd (cc)
 
 -- what is granted had its rule
 granted-holds : (s : Situation) (a : Ask) → is_granted (answer_to s a).word ≡ true → holds s (rule_of s.interface a) ≡ true
-unfolding answer_to
-granted-holds s a h = go s.piv (is_refused a) (holds s (rule_of s.interface a)) (refused-holds s a) h
+granted-holds s a h = go s.channel.piv (refusal a) (holds s (rule_of s.interface a)) (refused-holds s a) (sym (ap is_granted (answer_to-word s a)) ∙ h)
   where
-    go : (piv refused held : Bool) → (refused ≡ true → held ≡ true)
-        → is_granted (if not piv then only 0x6D00 else if refused then only (refusal_word a) else if not held then only 0x6982
-        else if lacks_pending s.pending a then only 0x6A80
-        else if is_wrong s.memory.admin s.pending a then only 0x6982
-        else if is_blocked s.memory a then only 0x6983
-        else if differs s.memory a then only (tries_word (tries_left s.memory a - 1))
-        else if asks_unknown_login s a then only (tries_word (tries_left s.memory a))
-        else if is_absent s.memory a then only 0x6A82
-        else if has_no_room s.memory a then only 0x6A84
-        else record { word = 0x9000; body = data_of s a }).word ≡ true → held ≡ true
+    go : (piv : Bool) (refused : Option ℕ) (held : Bool) → ((w : ℕ) → refused ≡ Some w → held ≡ true)
+        → is_granted (word_by (record (conditions s a) { piv = piv; refusal = refused; permitted = held })) ≡ true → held ≡ true
     go false r held f j = absurd (cc)
-    go true true held f j = f refl
-    go true false true f j = refl
-    go true false false f j = absurd (cc)
+    go true (Some w) held f j = f w refl
+    go true None true f j = refl
+    go true None false f j = absurd (cc)
 
 pub UsesAreEntitled-law : UsesAreEntitled
 unfolding answer answer_in
 UsesAreEntitled-law B H c k word block legal granted other =
-    let is_word : word ≡ (answer_to (situation B H c) (ask (profile B) k)).word = rw other at legal.1.2 in
-    entitled-holds B H c _ (granted-holds (situation B H c) (ask (profile B) k) (sym (ap is_granted is_word) ∙ granted))
+    let is_word : word ≡ (answer_to (situation_of B H c) (ask (profile B) k)).word = rw other at legal.1.2 in
+    entitled-holds B H c _ (granted-holds (situation_of B H c) (ask (profile B) k) (sym (ap is_granted is_word) ∙ granted))
 
 -- where the rule holds, 69 82 is the word of a wrong response
-wrong-only : (piv lacks wrong blocked unequal unknown absent full : Bool) (n : ℕ) (last : Reply) → n ≤ 15 → last.word ≡ 0x9000
-    → (if not piv then only 0x6D00
-    else if lacks then only 0x6A80
-    else if wrong then only 0x6982
-    else if blocked then only 0x6983
-    else if unequal then only (tries_word (n - 1))
-    else if unknown then only (tries_word n)
-    else if absent then only 0x6A82
-    else if full then only 0x6A84
-    else last).word ≡ 0x6982 → wrong ≡ true
-wrong-only piv lacks wrong blocked unequal unknown absent full n last few is h = grind (arith, nat_tests)
+wrong-only : (piv lacks wrong blocked unequal unknown absent full : Bool) (n : ℕ) → n ≤ 15
+    → (if not piv then 0x6D00
+    else if lacks then 0x6A80
+    else if wrong then 0x6982
+    else if blocked then 0x6983
+    else if unequal then tries_word (n - 1)
+    else if unknown then tries_word n
+    else if absent then 0x6A82
+    else if full then 0x6A84
+    else 0x9000) ≡ 0x6982 → wrong ≡ true
+wrong-only piv lacks wrong blocked unequal unknown absent full n few h = grind (arith, nat_tests)
+
+denied-wrong : (t : Conditions) → t.refusal ≡ None → t.permitted ≡ true → t.tries ≤ 15 → word_by t ≡ 0x6982 → t.wrong ≡ true
+denied-wrong t formed held few h =
+    wrong-only t.piv t.lacks_pending t.wrong t.blocked t.differs t.unknown_login t.absent t.no_room t.tries few (rw (formed, held) at h)
 
 few-left : (m : Memory) (a : Ask) → ((r : RefId) → (reference m r).tries ≤ 15) → tries_left m a ≤ 15
 few-left m (Compare r p purpose) few = few r
 few-left m (Query r) few = few r
 few-left m a few = omega arith
 
-pub EntitledAreServed-law : EntitledAreServed
-unfolding answer answer_in answer_to
-EntitledAreServed-law B H c k valid other formed held h =
-    wrong-only (situation B H c).piv _ _ _ _ _ _ _ (tries_left (mem B H) (ask (profile B) k))
-    (record { word = 0x9000; body = data_of (situation B H c) (ask (profile B) k) })
-    (few-left (mem B H) (ask (profile B) k) (few-tries B H valid)) refl (rw (other, formed, held) at h)
+pub OnlyWrongResponsesAreDenied-law : OnlyWrongResponsesAreDenied
+unfolding answer answer_in channel
+OnlyWrongResponsesAreDenied-law B H c k valid other formed held h =
+    let is_word : (answer_to (situation_of B H c) (ask (profile B) k)).word ≡ 0x6982 = rw other at h in
+    denied-wrong (conditions (situation_of B H c) (ask (profile B) k)) formed held
+    (few-left (mem B H) (ask (profile B) k) (few-tries B H valid)) (sym (answer_to-word (situation_of B H c) (ask (profile B) k)) ∙ is_word)
 
-pub ruleset use_laws = (UsesAreEntitled-law, EntitledAreServed-law)
+pub ruleset use_laws = (UsesAreEntitled-law, OnlyWrongResponsesAreDenied-law)

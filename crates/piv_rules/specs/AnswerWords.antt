@@ -1,23 +1,30 @@
--- When each status word comes, for each thing that a command can ask: by the history and the command, and apart from the
--- ordered table (SP 800-73-4 part 2, the status words of the commands; part 1, access rules).
+-- When each status word comes, for each thing that a command can ask: by the applications, logins and memory that the
+-- history gives, and apart from the order of the table of answers (SP 800-73-4 part 2, the status words of the commands;
+-- part 1, access rules). What a command asks, the access rule of an object, the room and the templates of the data are the
+-- definitions that the table uses too.
 use Rattle.std.specs.Prelude.{◌==◌, ◌||◌, ◌∷◌, [], ◌≡◌, ◌≢◌, ◌↔◌, ◌⊎◌, ◌≤◌, ◌<◌, ℕ, ◌-◌, Bool, true, false, List, length, Option, Some, None, IsTrue}
 use Rattle.std.specs.List.{list_any}
 use Rattle.std.specs.Str.{bytes_eq}
+use Rattle.piv_model.specs.declared.kinds.Application.TheVariants.{Piv, Idle}
 use Rattle.piv_model.specs.declared.kinds.Interface.TheVariants.{Contact, Contactless}
+use Rattle.piv_model.specs.declared.kinds.Rule.{Rule}
 use Rattle.piv_model.specs.declared.kinds.Rule.TheVariants as rule
 use Rattle.piv_model.specs.declared.kinds.RefId.{RefId}
+use Rattle.piv_model.specs.declared.kinds.RefId.TheVariants.{Pin, Puk, GlobalPin}
 use Rattle.piv_model.specs.Commands.{CardCommand}
 use Rattle.piv_model.specs.Entries.{Past}
 use Rattle.piv_model.specs.Memory.{has, fits}
 use Rattle.piv_model.specs.Objects.{read_rule_of}
-use Rattle.piv_rules.specs.StatusWords.{is_mismatched, tries_word}
 use Rattle.piv_model.specs.Base.{Base, profile, is_valid}
-use Rattle.piv_rules.specs.Asks.{Ask, Refused, Select, Get, Put, Logout, Query, Compare, Internal, AskChallenge, External, AskWitness, Mutual, Piv, Idle, Purpose, ask}
+use Rattle.piv_model.specs.StatusWords.{tries_word}
+use Rattle.piv_rules.specs.declared.lookback.Login.TheVariants as login
+use Rattle.piv_rules.specs.StatusWords.{is_mismatched}
+use Rattle.piv_rules.specs.Asks.{Ask, Refused, Select, Get, Put, Logout, Query, Compare, Internal, AskChallenge, External, AskWitness, Mutual, Purpose, ask}
 use Rattle.piv_rules.specs.Connections.{side, selected}
-use Rattle.piv_rules.specs.Logins.{Pending, NonePending, Challenge, Witness, pending}
+use Rattle.piv_rules.specs.Logins.{in_force, Pending, NonePending, Challenge, Witness, pending}
 use Rattle.piv_rules.specs.Memories.{mem, tries, secret, object}
 use Rattle.piv_rules.specs.RandomBlocks.{next_block}
-use Rattle.piv_rules.specs.Answers.{Reply, only, situation, holds, status, is_select, enciphered, object_data, template_with, piv_template, answer}
+use Rattle.piv_rules.specs.Answers.{Reply, only, is_select, global_counts, enciphered, object_data, template_with, piv_template, answer}
 
 -- a command other than SELECT that asks this
 abbrev pub AsksFor : Base → CardCommand → Ask → Type 0
@@ -30,6 +37,27 @@ IsReady B H c = (selected B H c ≡ true) × (side H c ≡ Contact)
 -- PIV is selected on a contactless connection, where the command asks for contact
 abbrev pub IsElsewhere : Base → Past → ℕ → Type 0
 IsElsewhere B H c = (selected B H c ≡ true) × (side H c ≡ Contactless)
+
+-- the connection and the logins in force on it allow what has this access rule
+abbrev pub Allows : Base → Past → ℕ → Rule → Type 0
+Allows B H c rule.Always = Unit {0}
+Allows B H c rule.ContactUse = side H c ≡ Contact
+Allows B H c rule.Pin =
+    (side H c ≡ Contact)
+    × ((in_force B H c login.Pin ≡ true) ⊎ ((in_force B H c login.Global ≡ true) × (global_counts (mem B H) ≡ true)))
+Allows B H c rule.Admin = (side H c ≡ Contact) × (in_force B H c login.Admin ≡ true)
+Allows B H c rule.Never = ⊥
+Allows B H c rule.Response = ⊥
+
+-- an object's access rule for reading, on the connection's side
+abbrev pub MayRead : Base → Past → ℕ → ℕ → Type 0
+MayRead B H c id = Allows B H c (read_rule_of id (side H c))
+
+-- a login by a reference is in force; the PUK gives none
+abbrev pub is_logged_in : Base → Past → ℕ → RefId → Bool
+is_logged_in B H c Pin = in_force B H c login.Pin
+is_logged_in B H c GlobalPin = in_force B H c login.Global
+is_logged_in B H c Puk = false
 
 -- the reply to a command whose only bars are the application and the contact interface
 pub record IsServedOnContact (B : Base) (H : Past) (c : ℕ) (r : Reply) : Type 0 where
@@ -52,12 +80,9 @@ RefusedWords = (B : Base) (H : Past) (c : ℕ) (k : CardCommand) (w : ℕ) → A
 -- GET DATA
 pub record IsGetReply (B : Base) (H : Past) (c id : ℕ) (r : Reply) : Type 0 where
   pub unselected : (r.word ≡ 0x6D00) ↔ (selected B H c ≡ false)
-  pub denied : (r.word ≡ 0x6982)
-      ↔ ((selected B H c ≡ true) × (holds (situation B H c) (read_rule_of id (side H c)) ≡ false))
-  pub absent : (r.word ≡ 0x6A82)
-      ↔ ((selected B H c ≡ true) × (holds (situation B H c) (read_rule_of id (side H c)) ≡ true) × (length (object B H id) ≡ 0))
-  pub served : (r.word ≡ 0x9000)
-      ↔ ((selected B H c ≡ true) × (holds (situation B H c) (read_rule_of id (side H c)) ≡ true) × (length (object B H id) ≢ 0))
+  pub denied : (r.word ≡ 0x6982) ↔ ((selected B H c ≡ true) × ¬ (MayRead B H c id))
+  pub absent : (r.word ≡ 0x6A82) ↔ ((selected B H c ≡ true) × MayRead B H c id × (length (object B H id) ≡ 0))
+  pub served : (r.word ≡ 0x9000) ↔ ((selected B H c ≡ true) × MayRead B H c id × (length (object B H id) ≢ 0))
   pub value : r.word ≡ 0x9000 → r.body ≡ object_data id (object B H id)
 
 abbrev pub GetWords : Type 0
@@ -67,11 +92,9 @@ GetWords = (B : Base) (H : Past) (c id : ℕ) (k : CardCommand) → AsksFor B k 
 -- PUT DATA
 pub record IsPutReply (B : Base) (H : Past) (c : ℕ) (v : List ℕ) (r : Reply) : Type 0 where
   pub unselected : (r.word ≡ 0x6D00) ↔ (selected B H c ≡ false)
-  pub denied : (r.word ≡ 0x6982) ↔ ((selected B H c ≡ true) × (holds (situation B H c) rule.Admin ≡ false))
-  pub full : (r.word ≡ 0x6A84)
-      ↔ ((selected B H c ≡ true) × (holds (situation B H c) rule.Admin ≡ true) × (fits (mem B H) v ≡ false))
-  pub served : (r.word ≡ 0x9000)
-      ↔ ((selected B H c ≡ true) × (holds (situation B H c) rule.Admin ≡ true) × (fits (mem B H) v ≡ true))
+  pub denied : (r.word ≡ 0x6982) ↔ ((selected B H c ≡ true) × ¬ (Allows B H c rule.Admin))
+  pub full : (r.word ≡ 0x6A84) ↔ ((selected B H c ≡ true) × Allows B H c rule.Admin × (fits (mem B H) v ≡ false))
+  pub served : (r.word ≡ 0x9000) ↔ ((selected B H c ≡ true) × Allows B H c rule.Admin × (fits (mem B H) v ≡ true))
 
 abbrev pub PutWords : Type 0
 PutWords = (B : Base) (H : Past) (c id : ℕ) (v : List ℕ) (k : CardCommand) → AsksFor B k (Put id v)
@@ -97,9 +120,9 @@ CompareWords = (B : Base) (H : Past) (c : ℕ) (ref : RefId) (p : List ℕ) (pur
 pub record IsQueryReply (B : Base) (H : Past) (c : ℕ) (ref : RefId) (r : Reply) : Type 0 where
   pub unselected : (r.word ≡ 0x6D00) ↔ (selected B H c ≡ false)
   pub denied : (r.word ≡ 0x6982) ↔ IsElsewhere B H c
-  pub differs : (is_mismatched r.word ≡ true) ↔ (IsReady B H c × (status (situation B H c) ref ≡ false))
+  pub differs : (is_mismatched r.word ≡ true) ↔ (IsReady B H c × (is_logged_in B H c ref ≡ false))
   pub left : is_mismatched r.word ≡ true → r.word ≡ tries_word (tries B H ref)
-  pub served : (r.word ≡ 0x9000) ↔ (IsReady B H c × (status (situation B H c) ref ≡ true))
+  pub served : (r.word ≡ 0x9000) ↔ (IsReady B H c × (is_logged_in B H c ref ≡ true))
 
 abbrev pub QueryWords : Type 0
 QueryWords = (B : Base) (H : Past) (c : ℕ) (ref : RefId) (k : CardCommand)

@@ -1,8 +1,9 @@
 -- The answer to a command, whose status word and data are read off an ordered table: the first line that fits decides
 -- (SP 800-73-4 part 1, access rules; part 2, the commands of the card edge; the order of the lines is this project's own).
-use Rattle.std.specs.Prelude.{ℕ, ◌-◌, Bool, true, false, not, ◌&&◌, ◌||◌, ◌==◌, List, [], ◌∷◌, length, slice_index, if◌then◌else◌}
+use Rattle.std.specs.Prelude.{ℕ, ◌-◌, Bool, true, false, not, ◌&&◌, ◌||◌, ◌==◌, List, [], ◌∷◌, length, slice_index, Option, Some, None, if◌then◌else◌}
 use Rattle.std.specs.Str.{bytes_eq}
 use Rattle.ber_tlv.specs.Elements.{spell}
+use Rattle.piv_model.specs.declared.kinds.Application.TheVariants.{Piv, Idle}
 use Rattle.piv_model.specs.declared.kinds.Interface.{Interface}
 use Rattle.piv_model.specs.declared.kinds.Interface.TheVariants.{Contact, Contactless}
 use Rattle.piv_model.specs.declared.kinds.Rule.{Rule}
@@ -13,40 +14,33 @@ use Rattle.piv_model.specs.declared.kinds.KeyId.TheVariants.{AdminKey, CardAuth}
 use Rattle.piv_model.specs.Commands.{CardCommand}
 use Rattle.piv_model.specs.Entries.{Past}
 use Rattle.piv_model.specs.Memory.{Memory, CardKey, reference, stored, fits}
-use Rattle.piv_model.specs.Objects.{read_rule_of}
+use Rattle.piv_model.specs.Objects.{discovery_place, read_rule_of}
 use Rattle.piv_model.specs.Rules.{use_rule_of}
 use Rattle.piv_model.specs.Cipher.{encipher}
-use Rattle.piv_rules.specs.StatusWords.{tries_word}
 use Rattle.piv_model.specs.Base.{Base, Profile, profile}
-use Rattle.piv_rules.specs.Asks.{Ask, Refused, Select, Get, Put, Logout, Query, Compare, Internal, AskChallenge, External, AskWitness, Mutual, Piv, Idle, ask}
-use Rattle.piv_rules.specs.Connections.{side, selected}
-use Rattle.piv_rules.specs.Logins.{PinLogin, GlobalLogin, AdminLogin, in_force, Pending, NonePending, Challenge, Witness, pending}
+use Rattle.piv_model.specs.StatusWords.{tries_word}
+use Rattle.piv_rules.specs.declared.table.Conditions.{Conditions}
+use Rattle.piv_rules.specs.Asks.{Ask, Refused, Select, Get, Put, Logout, Query, Compare, Internal, AskChallenge, External, AskWitness, Mutual, ask}
+use Rattle.piv_rules.specs.Connections.{side}
+use Rattle.piv_rules.specs.Logins.{Pending, NonePending, Challenge, Witness}
+use Rattle.piv_rules.specs.Channels.{Channel, channel}
 use Rattle.piv_rules.specs.Memories.{mem}
 use Rattle.piv_rules.specs.RandomBlocks.{next_block}
 
--- what an answer depends on, beside the command: the connection's interface, whether PIV is selected, its logins, its
--- pending block, the card's next block and its memory
+-- what an answer depends on, beside the command: the connection's interface, its application, logins and pending block,
+-- the card's next block and its memory
 pub record Situation : Type 0 where
   pub interface : Interface
-  pub piv : Bool
-  pub pin : Bool
-  pub global : Bool
-  pub admin : Bool
-  pub pending : Pending
+  pub channel : Channel
   pub next : List ℕ
   pub memory : Memory
 
-abbrev pub situation : Base → Past → ℕ → Situation
-situation B H c = record {
-  interface = side H c;
-  piv = selected B H c;
-  pin = in_force B H c PinLogin;
-  global = in_force B H c GlobalLogin;
-  admin = in_force B H c AdminLogin;
-  pending = pending B H c;
-  next = next_block B H;
-  memory = mem B H;
-}
+abbrev pub situation : Memory → Interface → List ℕ → Channel → Situation
+situation m i block x = record { interface = i; channel = x; next = block; memory = m }
+
+-- that of a connection after a history
+abbrev pub situation_of : Base → Past → ℕ → Situation
+situation_of B H c = situation (mem B H) (side H c) (next_block B H) (channel B H c)
 
 pub record Reply : Type 0 where
   pub word : ℕ
@@ -62,14 +56,14 @@ is_contact Contactless = false
 
 -- the Global PIN counts: the Discovery Object is present and the first byte of its policy is 60
 abbrev pub global_counts : Memory → Bool
-global_counts m = slice_index (stored m 10) 16 == 0x60
+global_counts m = slice_index (stored m discovery_place) 16 == 0x60
 
 -- an access rule holds
 abbrev pub holds : Situation → Rule → Bool
 holds s rule.Always = true
-holds s rule.Pin = is_contact s.interface && (s.pin || (s.global && global_counts s.memory))
+holds s rule.Pin = is_contact s.interface && (s.channel.pin || (s.channel.global && global_counts s.memory))
 holds s rule.Never = false
-holds s rule.Admin = is_contact s.interface && s.admin
+holds s rule.Admin = is_contact s.interface && s.channel.admin
 holds s rule.ContactUse = is_contact s.interface
 holds s rule.Response = false
 
@@ -89,19 +83,15 @@ rule_of i (Refused w) = rule.Always
 rule_of i (Select a) = rule.Always
 
 -- the status of a reference; the PUK has none
-abbrev pub status : Situation → RefId → Bool
-status s Pin = s.pin
-status s GlobalPin = s.global
-status s Puk = false
+abbrev pub status : Channel → RefId → Bool
+status x Pin = x.pin
+status x GlobalPin = x.global
+status x Puk = false
 
 -- the tests of the lines
-abbrev pub is_refused : Ask → Bool
-is_refused (Refused w) = true
-is_refused _ = false
-
-abbrev pub refusal_word : Ask → ℕ
-refusal_word (Refused w) = w
-refusal_word _ = 0
+abbrev pub refusal : Ask → Option ℕ
+refusal (Refused w) = Some w
+refusal _ = None
 
 abbrev pub is_challenge : Pending → Bool
 is_challenge (Challenge block) = true
@@ -143,9 +133,9 @@ abbrev pub differs : Memory → Ask → Bool
 differs m (Compare r p purpose) = not (bytes_eq p (reference m r).secret)
 differs m _ = false
 
-abbrev pub asks_unknown_login : Situation → Ask → Bool
-asks_unknown_login s (Query r) = not (status s r)
-asks_unknown_login s _ = false
+abbrev pub asks_unknown_login : Channel → Ask → Bool
+asks_unknown_login x (Query r) = not (status x r)
+asks_unknown_login x _ = false
 
 abbrev pub is_absent : Memory → Ask → Bool
 is_absent m (Get id) = length (stored m id) == 0
@@ -170,9 +160,9 @@ piv_template =
 abbrev pub template_with : ℕ → List ℕ → List ℕ
 template_with tag x = 0x7C ∷ 0x12 ∷ tag ∷ 0x10 ∷ x
 
--- an object's value as GET DATA gives it; the Discovery Object stands at place 10
+-- an object's value as GET DATA gives it
 abbrev pub object_data : ℕ → List ℕ → List ℕ
-object_data id value = spell (if id == 10 then 0x7E else 0x53) value
+object_data id value = spell (if id == discovery_place then 0x7E else 0x53) value
 
 -- the data of 90 00
 abbrev pub data_of : Situation → Ask → List ℕ
@@ -190,6 +180,59 @@ data_of s (Compare r p purpose) = []
 data_of s (External x) = []
 data_of s (Refused w) = []
 
+-- the conditions that the memory alone decides
+abbrev pub memory_conditions : Memory → Ask → Conditions
+memory_conditions m a = record {
+  piv = true;
+  refusal = None;
+  permitted = true;
+  lacks_pending = false;
+  wrong = false;
+  blocked = is_blocked m a;
+  differs = differs m a;
+  unknown_login = false;
+  absent = is_absent m a;
+  no_room = has_no_room m a;
+  tries = tries_left m a;
+}
+
+-- the conditions of the table's lines
+abbrev pub conditions : Situation → Ask → Conditions
+conditions s a = record (memory_conditions s.memory a) {
+  piv = s.channel.piv;
+  refusal = refusal a;
+  permitted = holds s (rule_of s.interface a);
+  lacks_pending = lacks_pending s.channel.pending a;
+  wrong = is_wrong s.memory.admin s.channel.pending a;
+  unknown_login = asks_unknown_login s.channel a;
+}
+
+-- the table: the first line that fits gives a word that refuses, and the last line grants
+abbrev pub unless : {A : Type 0} → Option ℕ → (ℕ → A) → A → A
+unless (Some w) refused next = refused w
+unless None refused next = next
+
+abbrev pub by_table : {A : Type 0} → (ℕ → A) → A → Conditions → A
+by_table refused granted t =
+    if not t.piv then refused 0x6D00
+    else unless t.refusal refused
+    (if not t.permitted then refused 0x6982
+    else if t.lacks_pending then refused 0x6A80
+    else if t.wrong then refused 0x6982
+    else if t.blocked then refused 0x6983
+    else if t.differs then refused (tries_word (t.tries - 1))
+    else if t.unknown_login then refused (tries_word t.tries)
+    else if t.absent then refused 0x6A82
+    else if t.no_room then refused 0x6A84
+    else granted)
+
+-- the word, and the reply
+abbrev pub word_by : Conditions → ℕ
+word_by t = by_table (λ w. w) 0x9000 t
+
+unfoldable pub answer_to : Situation → Ask → Reply
+answer_to s a = by_table only (record { word = 0x9000; body = data_of s a }) (conditions s a)
+
 -- SELECT is answered under either application
 abbrev pub is_select : CardCommand → Bool
 is_select k = k.ins == 0xA4
@@ -198,24 +241,9 @@ abbrev pub select_reply : Situation → Ask → Reply
 select_reply s (Refused w) = only w
 select_reply s a = record { word = 0x9000; body = data_of s a }
 
--- every other command
-unfoldable pub answer_to : Situation → Ask → Reply
-answer_to s a =
-    if not s.piv then only 0x6D00
-    else if is_refused a then only (refusal_word a)
-    else if not (holds s (rule_of s.interface a)) then only 0x6982
-    else if lacks_pending s.pending a then only 0x6A80
-    else if is_wrong s.memory.admin s.pending a then only 0x6982
-    else if is_blocked s.memory a then only 0x6983
-    else if differs s.memory a then only (tries_word (tries_left s.memory a - 1))
-    else if asks_unknown_login s a then only (tries_word (tries_left s.memory a))
-    else if is_absent s.memory a then only 0x6A82
-    else if has_no_room s.memory a then only 0x6A84
-    else record { word = 0x9000; body = data_of s a }
-
 -- the answer to a command in a situation, and after a history
 unfoldable pub answer_in : Profile → Situation → CardCommand → Reply
 answer_in m s k = if is_select k then select_reply s (ask m k) else answer_to s (ask m k)
 
 unfoldable pub answer : Base → Past → ℕ → CardCommand → Reply
-answer B H c k = answer_in (profile B) (situation B H c) k
+answer B H c k = answer_in (profile B) (situation_of B H c) k

@@ -1,21 +1,18 @@
 -- What a command asks, before anything is known of the connection that sends it. In each table the first test that
 -- fits decides (SP 800-73-4 part 2, the commands of the card edge; the order of the tests is this project's own).
 use Rattle.std.specs.Prelude.{ℕ, Bool, not, ◌&&◌, ◌||◌, ◌==◌, List, length, take, drop, Option, Some, None, option_and_then, if◌then◌else◌}
-use Rattle.std.specs.Str.{bytes_eq}
 use Rattle.ber_tlv.specs.Elements.{Element, elements_of}
+use Rattle.piv_model.specs.declared.kinds.Application.{Application}
 use Rattle.piv_model.specs.declared.kinds.RefId.{RefId}
 use Rattle.piv_model.specs.declared.kinds.RefId.TheVariants.{Pin, Puk, GlobalPin}
 use Rattle.piv_model.specs.declared.kinds.KeyId.{KeyId}
 use Rattle.piv_model.specs.declared.kinds.KeyId.TheVariants.{AdminKey, CardAuth}
 use Rattle.piv_model.specs.Commands.{CardCommand}
-use Rattle.piv_model.specs.Objects.{place_of}
+use Rattle.piv_model.specs.Objects.{discovery_place, place_of}
 use Rattle.piv_model.specs.Base.{Profile, is_served}
-use Rattle.piv_model.specs.Forms.{full_aid, is_pin, is_pair, is_puk_and_pin}
-use Rattle.piv_rules.specs.Forms.{short_aid, idle_aid, tag_named, PutForm, DiscoveryForm, ObjectForm, put_named, Field, Absent, Empty, Sixteen, field, are_fields, fields_of}
-
-pub data Application : Type 0 where
-  Piv : Application
-  Idle : Application
+use Rattle.piv_model.specs.ApplicationNames.{application_named}
+use Rattle.piv_model.specs.Forms.{is_pin, is_pair, is_puk_and_pin}
+use Rattle.piv_rules.specs.Forms.{tag_named, PutForm, DiscoveryForm, ObjectForm, put_named, Field, Absent, Empty, Sixteen, field, are_fields, fields_of}
 
 -- what a comparison is for: VERIFY, CHANGE REFERENCE DATA with the new value, or RESET RETRY COUNTER with the new PIN
 pub data Purpose : Type 0 where
@@ -61,13 +58,15 @@ keyed (Some key) f = f key
 abbrev pub is_at : CardCommand → ℕ → ℕ → Bool
 is_at k p1 p2 = (k.p1 == p1) && (k.p2 == p2)
 
--- SELECT
+-- SELECT; 6A 82 where no application has the name
+abbrev pub named : Option Application → Ask
+named None = Refused 0x6A82
+named (Some a) = Select a
+
 abbrev pub select_ask : CardCommand → Ask
 select_ask k =
     if not (is_at k 0x04 0x00) then Refused 0x6A86
-    else if bytes_eq k.body full_aid || bytes_eq k.body short_aid then Select Piv
-    else if bytes_eq k.body idle_aid then Select Idle
-    else Refused 0x6A82
+    else named (application_named k.body)
 
 -- GET DATA
 abbrev pub get_ask : CardCommand → Ask
@@ -75,9 +74,9 @@ get_ask k =
     if not (is_at k 0x3F 0xFF) then Refused 0x6A86
     else formed (option_and_then tag_named (elements_of k.body)) (λ t. found (place_of t) Get)
 
--- PUT DATA; the Discovery Object stands at place 10
+-- PUT DATA
 abbrev pub put_asked : PutForm → Ask
-put_asked (DiscoveryForm v) = Put 10 v
+put_asked (DiscoveryForm v) = Put discovery_place v
 put_asked (ObjectForm t v) = found (place_of t) (λ id. Put id v)
 
 abbrev pub put_ask : Profile → CardCommand → Ask

@@ -1,14 +1,12 @@
 -- What a history says of one connection's application, logins and pending block, as one value, and what a break and a
 -- call make of it (this project's own).
 use Rattle.std.specs.Prelude.{ℕ, Bool, false, List, Option, unwrap_or}
-use Rattle.piv_model.specs.declared.kinds.Interface.{Interface}
 use Rattle.piv_model.specs.Entries.{Past}
-use Rattle.piv_model.specs.Memory.{Memory}
 use Rattle.piv_model.specs.Base.{Base}
+use Rattle.piv_rules.specs.declared.lookback.Login.TheVariants as login
 use Rattle.piv_rules.specs.Asks.{Ask}
 use Rattle.piv_rules.specs.Connections.{selected, selected_after}
-use Rattle.piv_rules.specs.Logins.{PinLogin, GlobalLogin, AdminLogin, in_force, pin_after, global_after, admin_after, Pending, NonePending, pending, pending_by}
-use Rattle.piv_rules.specs.Answers.{Situation}
+use Rattle.piv_rules.specs.Logins.{in_force, pin_after, global_after, admin_after, Pending, NonePending, pending, pending_by}
 
 pub record Channel : Type 0 where
   pub piv : Bool
@@ -24,9 +22,9 @@ fresh = record { piv = false; pin = false; global = false; admin = false; pendin
 unfoldable pub channel : Base → Past → ℕ → Channel
 channel B H c = record {
   piv = selected B H c;
-  pin = in_force B H c PinLogin;
-  global = in_force B H c GlobalLogin;
-  admin = in_force B H c AdminLogin;
+  pin = in_force B H c login.Pin;
+  global = in_force B H c login.Global;
+  admin = in_force B H c login.Admin;
   pending = pending B H c;
 }
 
@@ -38,17 +36,4 @@ after_call a word block s = record {
   global = unwrap_or (global_after a word block) s.global;
   admin = unwrap_or (admin_after a word block) s.admin;
   pending = pending_by a block;
-}
-
--- the situation of a channel: with a memory, an interface and the card's next block
-abbrev pub seen : Memory → Interface → List ℕ → Channel → Situation
-seen m i block s = record {
-  interface = i;
-  piv = s.piv;
-  pin = s.pin;
-  global = s.global;
-  admin = s.admin;
-  pending = s.pending;
-  next = block;
-  memory = m;
 }

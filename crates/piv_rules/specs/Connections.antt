@@ -1,13 +1,14 @@
 -- What a history says of the card's power, of its connections and of their applications (this project's own; the
 -- application is that of SP 800-73-4 part 2, SELECT). A history has its newest entry first.
 use Rattle.std.specs.Prelude.{ℕ, Bool, true, false, not, ◌&&◌, ◌==◌, List, count_by, Option, Some, None, if◌then◌else◌}
+use Rattle.piv_model.specs.declared.kinds.Application.TheVariants.{Piv, Idle}
 use Rattle.piv_model.specs.declared.kinds.Interface.{Interface}
 use Rattle.piv_model.specs.declared.kinds.Interface.TheVariants.{Contact, Contactless}
-use Rattle.piv_model.specs.Entries.{CardEntry, Past, Opened, Closed, Call, Reset, Cut, Up}
+use Rattle.piv_model.specs.Entries.{CardEntry, Past, Opened, Closed, Call, Part, Rest, Bad, Reset, Cut, Up}
+use Rattle.piv_model.specs.Base.{Base, Profile, profile}
 use Rattle.piv_rules.specs.StatusWords.{is_granted}
 use Rattle.piv_rules.specs.Lookback.{last_of, some_entry}
-use Rattle.piv_model.specs.Base.{Base, Profile, profile}
-use Rattle.piv_rules.specs.Asks.{Ask, Select, Piv, Idle, ask}
+use Rattle.piv_rules.specs.Asks.{Ask, Select, ask}
 
 abbrev pub same_side : Interface → Interface → Bool
 same_side Contact Contact = true
@@ -67,6 +68,22 @@ breaks c G (Opened d interface shared) = d == c
 breaks c G (Reset i) = same_side i (side G c)
 breaks c G (Cut running) = true
 breaks c G _ = false
+
+-- an exchange of c: a command, a part of a chain, a piece of a reply, or bytes that are refused
+abbrev pub is_exchange_on : ℕ → CardEntry → Bool
+is_exchange_on c (Call d k word block) = d == c
+is_exchange_on c (Part d) = d == c
+is_exchange_on c (Rest d) = d == c
+is_exchange_on c (Bad d word) = d == c
+is_exchange_on c _ = false
+
+-- what the exchanges of c have led to, one entry later: a break of c begins anew, an exchange of c makes a step, and all
+-- else leaves what was before
+abbrev pub by_exchange : {A : Type 0} → ℕ → A → (A → A) → Past → CardEntry → A → A
+by_exchange c start step G e before =
+    if breaks c G e then start
+    else if is_exchange_on c e then step before
+    else before
 
 -- what the last break of c, or call on c that has a say, says; `call` reads a call's ask, word and block
 abbrev pub by_call : {A : Type 0} → Profile → ℕ → (Ask → ℕ → Option (List ℕ) → Option A) → CardEntry → Option A

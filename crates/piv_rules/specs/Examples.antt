@@ -7,17 +7,16 @@ use Rattle.piv_model.specs.declared.kinds.Took.TheVariants.{Nothing, Spent, Done
 use Rattle.piv_model.specs.Commands.{CardCommand, CardApdu}
 use Rattle.piv_model.specs.Entries.{Past, ◌▸◌, Opened, Call, Part, Rest, Bad, Cut, Up}
 use Rattle.piv_model.specs.Base.{Base}
-use Rattle.piv_model.specs.Forms.{full_aid}
-use Rattle.piv_rules.specs.Forms.{short_aid, idle_aid}
-use Rattle.piv_rules.specs.Memories.{tries}
+use Rattle.piv_model.specs.ApplicationNames.{full_aid, truncated_aid, idle_aid}
+use Rattle.piv_model.specs.PlainCard.{plain_base, plain_pin, plain_puk, plain_chuid, plain_printed}
+use Rattle.piv_rules.specs.Memories.{tries, object}
 use Rattle.piv_rules.specs.Answers.{Reply, only, piv_template, answer}
 use Rattle.piv_rules.specs.Losses.{MayTake}
-use Rattle.piv_rules.specs.Legal.{IsAllowed, rests_left}
+use Rattle.piv_rules.specs.Legal.{IsAllowed, fetched}
 use Rattle.piv_rules.specs.Acts.{Records, CardRecord, Connect, Connected, Exchange, Replied}
 use Rattle.piv_rules.specs.Frames.{BadFrame, PartFrame, RestFrame, WholeFrame, frame_of, rest}
 use Rattle.piv_rules.specs.Turns.{called, cut_reply}
 use Rattle.piv_rules.specs.Plans.{made, ArePlanned}
-use Rattle.piv_model.specs.PlainCard.{plain_base, plain_pin, plain_puk, plain_printed}
 
 -- the plain card where every instruction is served
 abbrev pub all_served : List ℕ
@@ -109,7 +108,7 @@ LoginOpens = replies plain start (select full_aid ∷ get_printed ∷ verify pla
 -- selecting PIV again and an unknown name keep the login, the idle application ends it
 abbrev pub IdleEndsTheLogin : Type 0
 IdleEndsTheLogin = words plain (after plain start (select full_aid ∷ verify plain_pin ∷ []))
-    (select short_aid ∷ get_printed ∷ select unknown_aid ∷ get_printed ∷ select idle_aid ∷ get_printed ∷ select full_aid ∷ get_printed ∷ [])
+    (select truncated_aid ∷ get_printed ∷ select unknown_aid ∷ get_printed ∷ select idle_aid ∷ get_printed ∷ select full_aid ∷ get_printed ∷ [])
     ≡ 0x9000 ∷ 0x9000 ∷ 0x6A82 ∷ 0x9000 ∷ 0x9000 ∷ 0x6D00 ∷ 0x9000 ∷ 0x6982 ∷ []
 
 abbrev pub blocked : Past
@@ -170,6 +169,36 @@ ChallengeIsAnsweredOnce =
     × (answer plain challenged 1 (respond response) ≡ only 0x9000)
     × (words plain (challenged ▸ Call 1 (respond response) 0x9000 None) (respond response ∷ put_chuid ∷ []) ≡ 0x6A80 ∷ 0x9000 ∷ [])
 
+abbrev pub ask_witness : CardCommand
+ask_witness = authenticate (0x7C ∷ 0x02 ∷ 0x80 ∷ 0x00 ∷ [])
+
+abbrev pub answer_witness : List ℕ → List ℕ → CardCommand
+answer_witness w x = authenticate (0x7C ∷ 0x24 ∷ 0x80 ∷ 0x10 ∷ w ++ 0x81 ∷ 0x10 ∷ x)
+
+-- a challenge, and its block under the key of administration; the value is that of openssl
+abbrev pub counting : List ℕ
+counting =
+    0x00 ∷ 0x01 ∷ 0x02 ∷ 0x03 ∷ 0x04 ∷ 0x05 ∷ 0x06 ∷ 0x07
+    ∷ 0x08 ∷ 0x09 ∷ 0x0A ∷ 0x0B ∷ 0x0C ∷ 0x0D ∷ 0x0E ∷ 0x0F ∷ []
+
+abbrev pub counting_enciphered : List ℕ
+counting_enciphered =
+    0x9C ∷ 0x54 ∷ 0xD5 ∷ 0x71 ∷ 0x70 ∷ 0x2C ∷ 0xFA ∷ 0x0F
+    ∷ 0x03 ∷ 0xF3 ∷ 0x62 ∷ 0x15 ∷ 0x67 ∷ 0x6B ∷ 0xAB ∷ 0x78 ∷ []
+
+abbrev pub witnessed : Past
+witnessed = start ▸ Call 1 (select full_aid) 0x9000 None ▸ Call 1 ask_witness 0x9000 (Some first_block)
+
+-- the Witness is the block enciphered; the block itself with a challenge logs in, and is given the challenge enciphered
+abbrev pub WitnessIsAnswered : Type 0
+WitnessIsAnswered =
+    (answer plain (after plain start (select full_aid ∷ [])) 1 ask_witness ≡ with_data (0x7C ∷ 0x12 ∷ 0x80 ∷ 0x10 ∷ response))
+    × (answer plain witnessed 1 (respond response) ≡ only 0x6A80)
+    × (answer plain witnessed 1 (answer_witness zeros counting) ≡ only 0x6982)
+    × (answer plain witnessed 1 (answer_witness first_block counting)
+    ≡ with_data (0x7C ∷ 0x12 ∷ 0x82 ∷ 0x10 ∷ counting_enciphered))
+    × (words plain (witnessed ▸ Call 1 (answer_witness first_block counting) 0x9000 None) (put_chuid ∷ []) ≡ 0x9000 ∷ [])
+
 -- ---- chains and pieces
 
 abbrev pub apdu : ℕ → CardCommand → ℕ → Result CardApdu ℕ
@@ -227,7 +256,7 @@ PiecesEnd =
     (chuid_record.answer ≡ Replied (0x53 ∷ 0x04 ∷ 0x3E ∷ 0x00 ∷ []) 0x6102)
     × (frame_of all_served get_response_apdu None (rest plain chuid_given 1) ≡ RestFrame (0xFE ∷ 0x00 ∷ []) 0x9000)
     × (frame_of all_served get_response_apdu None (rest plain (chuid_given ▸ rest_record) 1) ≡ BadFrame 0x6985)
-    × (rests_left plain (after plain start (select full_aid ∷ get_chuid ∷ [])) 1 ≡ 5)
+    × (fetched plain (after plain start (select full_aid ∷ get_chuid ∷ []) ▸ Rest 1) 1 ≡ Some (record { size = 6; rests = 1 }))
 
 -- ---- losses of power
 
@@ -271,6 +300,30 @@ wrong_then_lost = lost_in (verify plain_pin) (after plain selected_first (verify
 abbrev pub RightLoginDone : Type 0
 RightLoginDone =
     MayTake plain wrong_then_lost Done × (tries plain (wrong_then_lost ▸ Up Done) Pin ≡ 3)
+
+-- an unblocking that changes nothing, since the counters are full and the PIN the old one, may be called done too
+abbrev pub UnblockingLost : Type 0
+UnblockingLost =
+    MayTake plain (lost_in (unblock plain_puk plain_pin) selected_first) Done
+    × MayTake plain (lost_in (unblock plain_puk plain_pin) selected_first) Nothing
+    × MayTake plain (lost_in (unblock plain_puk plain_pin) selected_first) Spent
+
+-- a PUT that lost power is done or not; one of the value that is there already is never called done
+abbrev pub administered : Past
+administered = challenged ▸ Call 1 (respond response) 0x9000 None
+
+abbrev pub put_again : CardCommand
+put_again = record put_chuid { body = 0x5C ∷ 0x03 ∷ 0x5F ∷ 0xC1 ∷ 0x02 ∷ 0x53 ∷ 0x04 ∷ plain_chuid }
+
+abbrev pub PutLost : Type 0
+PutLost =
+    IsAllowed plain administered (Cut (Some (1, put_chuid)))
+    × MayTake plain (lost_in put_chuid administered) Done
+    × MayTake plain (lost_in put_chuid administered) Nothing
+    × ¬ (MayTake plain (lost_in put_chuid administered) Spent)
+    × (object plain (lost_in put_chuid administered ▸ Up Done) 1 ≡ 0x3E ∷ 0x01 ∷ 0xFE ∷ 0x00 ∷ [])
+    × (object plain (lost_in put_chuid administered ▸ Up Nothing) 1 ≡ plain_chuid)
+    × ¬ (MayTake plain (lost_in put_again administered) Done)
 
 -- the losses of these histories are those of a plan: power is lost at write 2, and at writes 2, 4 and 6
 abbrev pub two_writes : ℕ → ℕ

@@ -1,19 +1,11 @@
--- The forms of what a command bears: application names, the tag lists of GET DATA and PUT DATA, and the dynamic
--- authentication template (SP 800-73-4 part 2, SELECT, GET DATA, PUT DATA and GENERAL AUTHENTICATE). The name of the idle
--- application is this project's own.
+-- The forms of what a command bears: the tag lists of GET DATA and PUT DATA, and the dynamic authentication template
+-- (SP 800-73-4 part 2, GET DATA, PUT DATA and GENERAL AUTHENTICATE).
 use Rattle.std.specs.Prelude.{ℕ, Bool, not, ◌&&◌, ◌||◌, ◌==◌, nat_le, List, [], ◌∷◌, length, count_by, find, Option, Some, None, if◌then◌else◌}
 use Rattle.std.specs.List.{list_all}
 use Rattle.std.specs.Str.{bytes_eq}
 use Rattle.ber_tlv.specs.Elements.{Element, elements_of}
 use Rattle.piv_model.specs.Base.{Profile}
 use Rattle.piv_model.specs.Forms.{is_discovery}
-
--- the truncated name of the PIV application, and the name of the idle one
-abbrev pub short_aid : List ℕ
-short_aid = 0xA0 ∷ 0x00 ∷ 0x00 ∷ 0x03 ∷ 0x08 ∷ 0x00 ∷ 0x00 ∷ 0x10 ∷ 0x00 ∷ []
-
-abbrev pub idle_aid : List ℕ
-idle_aid = 0xF0 ∷ 0x49 ∷ 0x44 ∷ 0x4C ∷ 0x45 ∷ []
 
 -- a tag list: the element 5C with a value of 1 to 3 bytes
 abbrev pub is_tag_list : Element → Bool

@@ -1,12 +1,14 @@
 -- What the bytes of an exchange are, after what the connection has exchanged before: chains of commands and pieces of
 -- replies (ISO/IEC 7816-4, command chaining and GET RESPONSE; SP 800-73-4 part 2).
-use Rattle.std.specs.Prelude.{ℕ, ◌+◌, ◌-◌, Bool, not, ◌&&◌, ◌==◌, nat_lt, List, [], ◌∷◌, ◌++◌, length, take, drop, flat_map, Option, Some, None, Result, Ok, Err, if◌then◌else◌}
+use Rattle.std.specs.Prelude.{ℕ, ◌-◌, Bool, not, ◌&&◌, ◌==◌, List, [], ◌∷◌, ◌++◌, length, take, drop, flat_map, Option, Some, None, is_none, Result, Ok, Err, if◌then◌else◌}
 use Rattle.piv_model.specs.Commands.{CardCommand, CardApdu}
 use Rattle.piv_model.specs.Framing.{framing}
-use Rattle.piv_model.specs.Entries.{CardEntry, Past, Call, Part, Rest, Bad}
-use Rattle.piv_rules.specs.StatusWords.{is_granted}
+use Rattle.piv_model.specs.StatusWords.{piece_word}
+use Rattle.piv_model.specs.Chains.{Link, PartOf, WholeOf, RefusedBy, linked}
+use Rattle.piv_model.specs.Entries.{CardEntry, Past, Call, Part, Rest}
 use Rattle.piv_model.specs.Base.{Base, is_served}
-use Rattle.piv_rules.specs.Connections.{breaks}
+use Rattle.piv_rules.specs.StatusWords.{is_granted}
+use Rattle.piv_rules.specs.Connections.{by_exchange}
 use Rattle.piv_rules.specs.Answers.{answer}
 use Rattle.piv_rules.specs.Acts.{CardAct, Exchange, CardAnswer, Replied, Records, entries}
 
@@ -19,18 +21,14 @@ abbrev pub commands_of : CardAct → List CardCommand
 commands_of (Exchange c known bytes) = command_read (framing bytes)
 commands_of _ = []
 
--- the commands of the Parts at the end of what c exchanged after its last break, the first of them first: a Part goes
--- on, another exchange of c or a break of c ends
-abbrev pub parts_with : CardEntry → List CardCommand → Past → ℕ → List CardCommand → List CardCommand
-parts_with (Part d) ks G c before = if d == c then before ++ ks else before
-parts_with (Call d k word block) ks G c before = if d == c then [] else before
-parts_with (Rest d) ks G c before = if d == c then [] else before
-parts_with (Bad d word) ks G c before = if d == c then [] else before
-parts_with e ks G c before = if breaks c G e then [] else before
+-- the commands of the Parts in which what c exchanged after its last break ends, the first of them first
+abbrev pub part_step : List CardCommand → CardEntry → List CardCommand → List CardCommand
+part_step ks (Part d) before = before ++ ks
+part_step ks e before = []
 
 abbrev pub parts : Records → ℕ → List CardCommand
 parts [] c = []
-parts (r ∷ R) c = parts_with r.entry (commands_of r.act) (entries R) c (parts R c)
+parts (r ∷ R) c = by_exchange c [] (part_step (commands_of r.act) r.entry) (entries R) r.entry (parts R c)
 
 -- the open chain: the first command's header with the data of all
 abbrev pub joined : List CardCommand → Option CardCommand
@@ -45,19 +43,16 @@ abbrev pub given_length : CardAnswer → ℕ
 given_length (Replied body word) = length body
 given_length _ = 0
 
--- the data that a connection may still fetch: those of its last Call, where this was granted, without what it and the
--- Rests after it gave; another exchange of c or a break of c ends them
-abbrev pub rest_with : Base → CardEntry → ℕ → Past → ℕ → List ℕ → List ℕ
-rest_with B (Call d k word block) given G c before =
-    if d == c then (if is_granted word then drop given (answer B G c k).body else []) else before
-rest_with B (Rest d) given G c before = if d == c then drop given before else before
-rest_with B (Part d) given G c before = if d == c then [] else before
-rest_with B (Bad d word) given G c before = if d == c then [] else before
-rest_with B e given G c before = if breaks c G e then [] else before
+-- the data that wait on c: those of its last Call, where this was granted, without what it and the Rests after it gave
+abbrev pub waiting_step : Base → Past → ℕ → ℕ → CardEntry → List ℕ → List ℕ
+waiting_step B G c given (Call d k word block) before = if is_granted word then drop given (answer B G c k).body else []
+waiting_step B G c given (Rest d) before = drop given before
+waiting_step B G c given e before = []
 
 unfoldable pub rest : Base → Records → ℕ → List ℕ
 rest B [] c = []
-rest B (r ∷ R) c = rest_with B r.entry (given_length r.answer) (entries R) c (rest B R c)
+rest B (r ∷ R) c =
+    by_exchange c [] (waiting_step B (entries R) c (given_length r.answer) r.entry) (entries R) r.entry (rest B R c)
 
 -- what an exchange's bytes are: a refusal, a part of a chain, a piece of the rest with its word, or a whole command
 -- and how many bytes its reply may have
@@ -66,10 +61,6 @@ pub data Frame : Type 0 where
   PartFrame : Frame
   RestFrame : List ℕ → ℕ → Frame
   WholeFrame : CardCommand → ℕ → Frame
-
--- the word of a piece: 90 00 with the last one, else 61 XX, XX being the bytes left, or 00 for 256 and more
-abbrev pub piece_word : ℕ → ℕ
-piece_word left = if left == 0 then 0x9000 else if nat_lt left 256 then 0x6100 + left else 0x6100
 
 -- GET RESPONSE
 abbrev pub next_piece : List ℕ → ℕ → Frame
@@ -85,30 +76,21 @@ get_response k most waiting =
 abbrev pub is_get_response : List ℕ → CardApdu → Bool
 is_get_response serves a = (a.class == 0x00) && (a.command.ins == 0xC0) && is_served serves 0xC0
 
-abbrev pub same_header : CardCommand → CardCommand → Bool
-same_header k j = (k.ins == j.ins) && (k.p1 == j.p1) && (k.p2 == j.p2)
+-- what an APDU makes of the chain, as a frame
+abbrev pub frame_by : Link → ℕ → Frame
+frame_by (PartOf k) most = PartFrame
+frame_by (WholeOf k) most = WholeFrame k most
+frame_by (RefusedBy w) most = BadFrame w
 
--- a chain has at most 16,640 bytes; class 10 adds a part to it
-abbrev pub joined_frame : ℕ → CardCommand → ℕ → Frame
-joined_frame class k most =
-    if nat_lt 16640 (length k.body) then BadFrame 0x6700
-    else if class == 0x10 then PartFrame
-    else WholeFrame k most
-
-abbrev pub chained_frame : CardApdu → CardCommand → Frame
-chained_frame a j =
-    if not (same_header a.command j) then BadFrame 0x6883
-    else joined_frame a.class (record j { body = j.body ++ a.command.body }) a.most
-
-abbrev pub single_frame : List ℕ → CardApdu → List ℕ → Frame
-single_frame serves a waiting =
-    if is_get_response serves a then get_response a.command a.most waiting
-    else joined_frame a.class a.command a.most
+-- GET RESPONSE in the midst of a chain is no part of it
+abbrev pub fetches : List ℕ → CardApdu → Option CardCommand → Bool
+fetches serves a chained = is_none chained && is_get_response serves a
 
 abbrev pub frame_of : List ℕ → Result CardApdu ℕ → Option CardCommand → List ℕ → Frame
 frame_of serves (Err w) chained waiting = BadFrame w
-frame_of serves (Ok a) (Some j) waiting = chained_frame a j
-frame_of serves (Ok a) None waiting = single_frame serves a waiting
+frame_of serves (Ok a) chained waiting =
+    if fetches serves a chained then get_response a.command a.most waiting
+    else frame_by (linked chained a) a.most
 
 unfoldable pub frame : Base → Records → ℕ → List ℕ → Frame
 frame B R c bytes = frame_of B.serves (framing bytes) (chain R c) (rest B R c)

@@ -1,6 +1,7 @@
 -- What holds of every history, over the definitions: how each question changes by one entry, what a legal history
 -- can't have, and what stays (this project's own).
-use Rattle.std.specs.Prelude.{◌≡◌, ◌⊎◌, ◌≤◌, ℕ, ◌-◌, Bool, true, false, not, ◌&&◌, ◌==◌, List, [], ◌∷◌, ◌++◌, Option, Some, None, length, is_some, unwrap_or, IsTrue, if◌then◌else◌}
+use Rattle.std.specs.Prelude.{◌≡◌, ◌⊎◌, ◌≤◌, ℕ, ◌-◌, Bool, true, false, not, ◌&&◌, ◌==◌, List, [], ◌∷◌, ◌++◌, Option, Some, None, length, is_some, IsTrue, if◌then◌else◌}
+use Rattle.piv_model.specs.declared.kinds.Application.TheVariants.{Piv}
 use Rattle.piv_model.specs.declared.kinds.Interface.TheVariants.{Contact}
 use Rattle.piv_model.specs.declared.kinds.Rule.{Rule}
 use Rattle.piv_model.specs.declared.kinds.Rule.TheVariants as rule
@@ -9,36 +10,26 @@ use Rattle.piv_model.specs.declared.kinds.RefId.TheVariants.{Pin}
 use Rattle.piv_model.specs.declared.kinds.Took.{Took}
 use Rattle.piv_model.specs.declared.kinds.Took.TheVariants.{Nothing}
 use Rattle.piv_model.specs.Commands.{CardCommand}
-use Rattle.piv_model.specs.Entries.{CardEntry, Past, ◌▸◌, Call, Part, Rest, Bad, Cut, Up}
-use Rattle.piv_model.specs.Memory.{has, reference, stored}
-use Rattle.piv_rules.specs.StatusWords.{is_granted}
+use Rattle.piv_model.specs.Entries.{CardEntry, Past, ◌▸◌, Call, Cut, Up}
+use Rattle.piv_model.specs.Memory.{Memory, has, reference, stored}
 use Rattle.piv_model.specs.Base.{Base, profile, is_valid}
-use Rattle.piv_rules.specs.Asks.{Put, Compare, Change, Unblock, Select, Piv, ask}
-use Rattle.piv_rules.specs.Connections.{side, breaks, by_call, on_connection, selected, selected_after}
-use Rattle.piv_rules.specs.Logins.{Login, PinLogin, GlobalLogin, AdminLogin, login_after, in_force, NonePending, pending, pending_after}
-use Rattle.piv_rules.specs.Memories.{running, did, gave, fills, spends, spends_since, tries, comparisons, secret_by, secret, object_by, object, mem}
+use Rattle.piv_rules.specs.declared.lookback.Login.{Login}
+use Rattle.piv_rules.specs.declared.lookback.Login.TheVariants as login
+use Rattle.piv_rules.specs.StatusWords.{is_granted}
+use Rattle.piv_rules.specs.Asks.{Put, Compare, Change, Unblock, Select, ask}
+use Rattle.piv_rules.specs.Connections.{on, side, breaks, is_exchange_on, by_call}
+use Rattle.piv_rules.specs.Logins.{login_after, in_force, pending}
+use Rattle.piv_rules.specs.Memories.{running, did, gave, fills, spends, spends_since, tries, comparisons, secret_by, object_by, mem}
 use Rattle.piv_rules.specs.Effects.{memory_after, memory_by}
-use Rattle.piv_rules.specs.Answers.{answer, situation, holds, rule_of, is_select, is_wrong, is_refused, global_counts}
+use Rattle.piv_rules.specs.Answers.{answer, situation_of, holds, rule_of, is_select, is_wrong, refusal, global_counts}
 use Rattle.piv_rules.specs.Legal.{IsLegal}
 use Rattle.piv_rules.specs.Channels.{channel}
-use Rattle.piv_rules.specs.Losses.{MayTake}
+use Rattle.piv_rules.specs.Losses.{MayTake, IsTold}
 use Rattle.piv_rules.specs.Acts.{CardRecord, Records, entries}
 use Rattle.piv_rules.specs.Frames.{chain, rest}
 use Rattle.piv_rules.specs.Turns.{Runs}
 
 -- ---- one entry more
-
-abbrev pub SelectedSteps : Type 0
-SelectedSteps = (B : Base) (H : Past) (e : CardEntry) (c : ℕ)
-    → selected B (H ▸ e) c ≡ unwrap_or (on_connection (profile B) c false selected_after H e) (selected B H c)
-
-abbrev pub LoginSteps : Login → Type 0
-LoginSteps x = (B : Base) (H : Past) (e : CardEntry) (c : ℕ)
-    → in_force B (H ▸ e) c x ≡ unwrap_or (on_connection (profile B) c false (login_after x) H e) (in_force B H c x)
-
-abbrev pub PendingSteps : Type 0
-PendingSteps = (B : Base) (H : Past) (e : CardEntry) (c : ℕ)
-    → pending B (H ▸ e) c ≡ unwrap_or (on_connection (profile B) c NonePending pending_after H e) (pending B H c)
 
 -- the tries: filled, or one less, or as before
 abbrev pub TriesSteps : Type 0
@@ -46,14 +37,6 @@ TriesSteps = (B : Base) (H : Past) (e : CardEntry) (r : RefId)
     → tries B (H ▸ e) r ≡ (if fills (profile B) r H e then (reference B.memory r).limit
     else if spends (profile B) r H e then tries B H r - 1
     else tries B H r)
-
-abbrev pub SecretSteps : Type 0
-SecretSteps = (B : Base) (H : Past) (e : CardEntry) (r : RefId)
-    → secret B (H ▸ e) r ≡ unwrap_or (gave (profile B) (secret_by r) H e) (secret B H r)
-
-abbrev pub ObjectSteps : Type 0
-ObjectSteps = (B : Base) (H : Past) (e : CardEntry) (id : ℕ)
-    → object B (H ▸ e) id ≡ unwrap_or (gave (profile B) (object_by id) H e) (object B H id)
 
 abbrev pub MemorySteps : Type 0
 MemorySteps = (B : Base) (H : Past) (e : CardEntry) → mem B (H ▸ e) ≡ memory_by (profile B) (did H e) (mem B H)
@@ -122,6 +105,21 @@ UpsTellTheMemory = (B : Base) (H : Past) (t : Took)
 abbrev pub NothingMayBeTaken : Type 0
 NothingMayBeTaken = (B : Base) (H : Past) → MayTake B H Nothing
 
+-- what is told of a command, by its memory, may be said after the loss
+abbrev pub ToldMayBeTaken : Type 0
+ToldMayBeTaken = (B : Base) (G : Past) (c : ℕ) (k : CardCommand) (t : Took) (now : Memory)
+    → IsTold (ask (profile B) k) t (mem B G) now
+    → MayTake B (G ▸ Cut (Some (c, k))) t × (now ≡ mem B (G ▸ Cut (Some (c, k)) ▸ Up t))
+
+-- the memory of a card that is off is the one before the loss
+abbrev pub before_loss : Past → Past
+before_loss [] = []
+before_loss (Cut command ∷ G) = G
+before_loss (e ∷ G) = before_loss G
+
+abbrev pub OffLeavesTheMemory : Type 0
+OffLeavesTheMemory = (B : Base) (H : Past) → IsLegal B H → on H ≡ false → mem B H ≡ mem B (before_loss H)
+
 -- the memory of a card without a history is the base's
 abbrev pub StartsWithTheBase : Type 0
 StartsWithTheBase = (B : Base) → length B.memory.objects ≡ 33 → mem B [] ≡ B.memory
@@ -150,8 +148,8 @@ IsEntitled B H c rule.Always = Unit {0}
 IsEntitled B H c rule.ContactUse = side H c ≡ Contact
 IsEntitled B H c rule.Pin =
     (side H c ≡ Contact)
-    × (IsLoggedIn B H c PinLogin ⊎ (IsLoggedIn B H c GlobalLogin × (global_counts (mem B H) ≡ true)))
-IsEntitled B H c rule.Admin = (side H c ≡ Contact) × IsLoggedIn B H c AdminLogin
+    × (IsLoggedIn B H c login.Pin ⊎ (IsLoggedIn B H c login.Global × (global_counts (mem B H) ≡ true)))
+IsEntitled B H c rule.Admin = (side H c ≡ Contact) × IsLoggedIn B H c login.Admin
 IsEntitled B H c rule.Never = ⊥
 IsEntitled B H c rule.Response = ⊥
 
@@ -161,11 +159,11 @@ UsesAreEntitled = (B : Base) (H : Past) (c : ℕ) (k : CardCommand) (word : ℕ)
     → IsLegal B (H ▸ Call c k word block) → is_granted word ≡ true → is_select k ≡ false
     → IsEntitled B H c (rule_of (side H c) (ask (profile B) k))
 
--- where the rule holds, 69 82 says that a response is wrong
-abbrev pub EntitledAreServed : Type 0
-EntitledAreServed = (B : Base) (H : Past) (c : ℕ) (k : CardCommand)
-    → IsTrue (is_valid B) → is_select k ≡ false → is_refused (ask (profile B) k) ≡ false
-    → holds (situation B H c) (rule_of (side H c) (ask (profile B) k)) ≡ true
+-- where the rule holds, 69 82 is the word of a wrong response alone
+abbrev pub OnlyWrongResponsesAreDenied : Type 0
+OnlyWrongResponsesAreDenied = (B : Base) (H : Past) (c : ℕ) (k : CardCommand)
+    → IsTrue (is_valid B) → is_select k ≡ false → refusal (ask (profile B) k) ≡ None
+    → holds (situation_of B H c) (rule_of (side H c) (ask (profile B) k)) ≡ true
     → (answer B H c k).word ≡ 0x6982
     → is_wrong (mem B H).admin (pending B H c) (ask (profile B) k) ≡ true
 
@@ -185,14 +183,6 @@ LoginsAreApart = (B : Base) (H : Past) (e : CardEntry) (c : ℕ) (x : Login)
 abbrev pub ChannelsAreApart : Type 0
 ChannelsAreApart = (B : Base) (H : Past) (e : CardEntry) (c : ℕ)
     → is_call_on c e ≡ false → breaks c H e ≡ false → channel B (H ▸ e) c ≡ channel B H c
-
--- an exchange of c
-abbrev pub is_exchange_on : ℕ → CardEntry → Bool
-is_exchange_on c (Call d k word block) = d == c
-is_exchange_on c (Part d) = d == c
-is_exchange_on c (Rest d) = d == c
-is_exchange_on c (Bad d word) = d == c
-is_exchange_on c _ = false
 
 -- the open chain and the waiting data of c are changed by its own exchanges and its breaks alone
 abbrev pub FramesAreApart : Type 0

@@ -1,6 +1,6 @@
 -- Which histories are legal: each entry is allowed after those before it (this project's own; the answers of the calls
 -- are those of the ordered table).
-use Rattle.std.specs.Prelude.{◌≡◌, ℕ, zero, suc, ◌+◌, ◌-◌, ◌≤◌, Bool, true, false, not, ◌&&◌, ◌||◌, ◌==◌, nat_lt, nat_le, List, [], ◌∷◌, length, count_by, Option, Some, None, IsTrue, if◌then◌else◌}
+use Rattle.std.specs.Prelude.{◌≡◌, ℕ, zero, suc, ◌+◌, ◌≤◌, Bool, true, false, not, ◌&&◌, ◌||◌, nat_lt, nat_le, List, [], ◌∷◌, length, count_by, Option, Some, None, option_map, IsTrue, if◌then◌else◌}
 use Rattle.std.specs.List.{list_any}
 use Rattle.piv_model.specs.declared.kinds.Interface.{Interface}
 use Rattle.piv_model.specs.declared.history.ActKind.{ActKind}
@@ -9,10 +9,10 @@ use Rattle.piv_model.specs.declared.history.Refusal.{Refusal}
 use Rattle.piv_model.specs.declared.history.Refusal.TheVariants as why
 use Rattle.piv_model.specs.Commands.{CardCommand}
 use Rattle.piv_model.specs.Entries.{CardEntry, Past, Opened, Closed, Call, Part, Rest, Bad, Reset, Cut, Up, Note}
-use Rattle.piv_rules.specs.StatusWords.{is_granted, is_mismatched, is_framing_word}
 use Rattle.piv_model.specs.Base.{Base, profile}
+use Rattle.piv_rules.specs.StatusWords.{is_granted, is_mismatched, is_framing_word}
 use Rattle.piv_rules.specs.Asks.{Ask, Put, Compare, AskChallenge, AskWitness, ask}
-use Rattle.piv_rules.specs.Connections.{same_side, on, is_open, side, is_exclusive, epoch, breaks}
+use Rattle.piv_rules.specs.Connections.{same_side, on, is_open, side, is_exclusive, epoch, by_exchange}
 use Rattle.piv_rules.specs.RandomBlocks.{next_block}
 use Rattle.piv_rules.specs.Answers.{answer}
 use Rattle.piv_rules.specs.Losses.{MayTake}
@@ -51,16 +51,29 @@ asks_block _ = false
 abbrev pub block_borne : Base → Past → CardCommand → ℕ → Option (List ℕ)
 block_borne B G k word = if asks_block (ask (profile B) k) && is_granted word then Some (next_block B G) else None
 
--- how many Rests may come yet on c: as many as its last Call has data, where this was granted, less one for the Call itself
--- and for each Rest after it, since each gives a byte at least; another exchange of c or a break of c ends them
-abbrev pub rests_left : Base → Past → ℕ → ℕ
-rests_left B [] c = 0
-rests_left B (Call d k word block ∷ G) c =
-    if d == c then (if is_granted word then length (answer B G c k).body - 1 else 0) else rests_left B G c
-rests_left B (Rest d ∷ G) c = if d == c then rests_left B G c - 1 else rests_left B G c
-rests_left B (Part d ∷ G) c = if d == c then 0 else rests_left B G c
-rests_left B (Bad d word ∷ G) c = if d == c then 0 else rests_left B G c
-rests_left B (e ∷ G) c = if breaks c G e then 0 else rests_left B G c
+-- the granted Call and the Rests after it in which what c exchanged after its last break ends: how many bytes of data the
+-- Call has, and how many Rests there were
+pub record Fetched : Type 0 where
+  pub size : ℕ
+  pub rests : ℕ
+
+abbrev pub with_rest : Fetched → Fetched
+with_rest f = record f { rests = f.rests + 1 }
+
+abbrev pub fetch_step : Base → Past → ℕ → CardEntry → Option Fetched → Option Fetched
+fetch_step B G c (Call d k word block) before =
+    if is_granted word then Some (record { size = length (answer B G c k).body; rests = 0 }) else None
+fetch_step B G c (Rest d) before = option_map with_rest before
+fetch_step B G c e before = None
+
+abbrev pub fetched : Base → Past → ℕ → Option Fetched
+fetched B [] c = None
+fetched B (e ∷ G) c = by_exchange c None (fetch_step B G c e) G e (fetched B G c)
+
+-- after n Rests one more may come where the data have at least n + 2 bytes, since the Call and each Rest gave one at least
+abbrev pub MayFetch : Option Fetched → Type 0
+MayFetch None = ⊥
+MayFetch (Some f) = f.rests + 2 ≤ f.size
 
 -- a command that writes: only such a one can lose power
 abbrev pub is_writer : Ask → Bool
@@ -91,7 +104,7 @@ IsAllowed B G (Call c k word block) =
     IsTrue (on G) × IsTrue (is_open G c) × (word ≡ (answer B G c k).word) × (block ≡ block_borne B G k word)
 IsAllowed B G (Part c) = IsTrue (on G) × IsTrue (is_open G c)
 IsAllowed B G (Bad c word) = IsTrue (on G) × IsTrue (is_open G c) × IsTrue (is_framing_word word)
-IsAllowed B G (Rest c) = IsTrue (on G) × IsTrue (is_open G c) × (1 ≤ rests_left B G c)
+IsAllowed B G (Rest c) = IsTrue (on G) × IsTrue (is_open G c) × MayFetch (fetched B G c)
 IsAllowed B G (Reset i) = IsTrue (on G)
 IsAllowed B G (Cut None) = IsTrue (on G)
 IsAllowed B G (Cut (Some r)) =

@@ -20,3 +20,10 @@ pub mod Examples
 pub mod AnswerWords
 pub mod Lent
 pub mod StandsFor
+pub mod ConnectionSteps
+pub mod PlanSteps
+pub mod FrameLaws
+pub mod RecordLaws
+pub mod StandsLaws
+pub mod NumberLaws
+pub mod ConnectionExamples

@@ -2,19 +2,16 @@
 -- (SP 800-73-4 part 1, security status; part 2, VERIFY, CHANGE REFERENCE DATA, RESET RETRY COUNTER and GENERAL
 -- AUTHENTICATE; one status for each connection is this project's own).
 use Rattle.std.specs.Prelude.{ℕ, Bool, true, false, ◌==◌, ◌||◌, List, Option, Some, None, is_some, if◌then◌else◌}
+use Rattle.piv_model.specs.declared.kinds.Application.TheVariants.{Idle}
 use Rattle.piv_model.specs.declared.kinds.RefId.TheVariants.{Pin, Puk, GlobalPin}
 use Rattle.piv_model.specs.Entries.{Past}
+use Rattle.piv_model.specs.Base.{Base, profile}
+use Rattle.piv_rules.specs.declared.lookback.Login.{Login}
+use Rattle.piv_rules.specs.declared.lookback.Login.TheVariants as login
 use Rattle.piv_rules.specs.StatusWords.{is_granted, is_mismatched}
 use Rattle.piv_rules.specs.Lookback.{last_of}
-use Rattle.piv_model.specs.Base.{Base, profile}
-use Rattle.piv_rules.specs.Asks.{Ask, Select, Logout, Compare, AskChallenge, External, AskWitness, Mutual, Idle, Verify, Change, Unblock}
+use Rattle.piv_rules.specs.Asks.{Ask, Select, Logout, Compare, AskChallenge, External, AskWitness, Mutual, Verify, Change, Unblock}
 use Rattle.piv_rules.specs.Connections.{on_connection}
-
--- the login of reference 80, of reference 00, and of key 9B
-pub data Login : Type 0 where
-  PinLogin : Login
-  GlobalLogin : Login
-  AdminLogin : Login
 
 -- a comparison logs in where it matches, and ends the login where it doesn't
 abbrev pub compared : ℕ → Option Bool
@@ -51,9 +48,9 @@ admin_after (Select Idle) word block = ends_if (is_some block || is_granted word
 admin_after _ word block = ends_if (is_some block)
 
 abbrev pub login_after : Login → Ask → ℕ → Option (List ℕ) → Option Bool
-login_after PinLogin = pin_after
-login_after GlobalLogin = global_after
-login_after AdminLogin = admin_after
+login_after login.Pin = pin_after
+login_after login.Global = global_after
+login_after login.Admin = admin_after
 
 -- in force: the last entry that touches the login of c sets it
 abbrev pub in_force : Base → Past → ℕ → Login → Bool

@@ -9,9 +9,9 @@ use Rattle.piv_model.specs.declared.kinds.Took.TheVariants.{Spent, Done}
 use Rattle.piv_model.specs.Commands.{CardCommand}
 use Rattle.piv_model.specs.Entries.{CardEntry, Past, Call, Cut, Up}
 use Rattle.piv_model.specs.Memory.{Memory, Reference, has, reference, stored}
+use Rattle.piv_model.specs.Base.{Base, Profile, profile}
 use Rattle.piv_rules.specs.Effects.{took_by}
 use Rattle.piv_rules.specs.Lookback.{last_of, count_after, some_entry}
-use Rattle.piv_model.specs.Base.{Base, Profile, profile}
 use Rattle.piv_rules.specs.Asks.{Ask, Put, Compare, Purpose, Change, Unblock, ask}
 
 abbrev pub same_reference : RefId → RefId → Bool

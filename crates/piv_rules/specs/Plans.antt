@@ -1,12 +1,12 @@
 -- The plan of losses: the device writes at which power is to be lost, and the histories that keep to such a plan (this
 -- project's own). `put_cost` gives the writes of a value of so many bytes in the card's store.
-use Rattle.std.specs.List.Sorted.{IsStrictlyIncreasing}
 use Rattle.std.specs.Prelude.{◌≡◌, ℕ, ◌+◌, ◌-◌, filter, map, Bool, ◌&&◌, nat_lt, nat_le, List, [], ◌∷◌, length, find, unwrap_or, Some, IsTrue, not, if◌then◌else◌}
 use Rattle.std.specs.List.{list_any}
+use Rattle.std.specs.List.Sorted.{IsStrictlyIncreasing}
 use Rattle.piv_model.specs.Commands.{CardCommand}
 use Rattle.piv_model.specs.Entries.{CardEntry, Past, Call, Cut}
-use Rattle.piv_rules.specs.StatusWords.{is_granted, is_mismatched}
 use Rattle.piv_model.specs.Base.{Base, profile}
+use Rattle.piv_rules.specs.StatusWords.{is_granted, is_mismatched}
 use Rattle.piv_rules.specs.Asks.{Ask, Put, Compare, ask}
 use Rattle.piv_rules.specs.Answers.{answer}
 

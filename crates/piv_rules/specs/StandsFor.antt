@@ -1,19 +1,15 @@
 -- What a card stands for: the base that it began with and the records of what was done on it since (this project's own).
-use Rattle.std.specs.Prelude.{◌≡◌, ℕ, ◌+◌, Bool, not, List, Option, Some, None, IsTrue, IfSome, if◌then◌else◌}
+use Rattle.std.specs.Prelude.{◌≡◌, ℕ, Bool, not, List, Option, Some, None, IsTrue, if◌then◌else◌}
 use Rattle.piv_model.specs.declared.kinds.Interface.{Interface}
-use Rattle.piv_model.specs.declared.kinds.Interface.TheVariants.{Contact, Contactless}
-use Rattle.piv_model.specs.declared.kinds.RefId.{RefId}
 use Rattle.piv_model.specs.declared.kinds.Took.{Took}
 use Rattle.piv_model.specs.Commands.{CardCommand}
 use Rattle.piv_model.specs.Entries.{Past, ◌▸◌, Up}
 use Rattle.piv_model.specs.Memory.{Memory}
 use Rattle.piv_model.specs.Base.{Base}
-use Rattle.piv_rules.specs.Connections.{on, is_open, side, is_exclusive, epoch}
-use Rattle.piv_rules.specs.Memories.{running, comparisons, mem}
-use Rattle.piv_rules.specs.RandomBlocks.{next_block}
+use Rattle.piv_rules.specs.Connections.{on, is_open, side}
+use Rattle.piv_rules.specs.Memories.{running, mem}
 use Rattle.piv_rules.specs.Channels.{Channel, channel}
 use Rattle.piv_rules.specs.Losses.{MayTake}
-use Rattle.piv_rules.specs.Legal.{opened_count}
 use Rattle.piv_rules.specs.Acts.{Records, entries}
 use Rattle.piv_rules.specs.Frames.{chain, rest}
 use Rattle.piv_rules.specs.Turns.{Runs}
@@ -42,38 +38,22 @@ pub record CardState : Type 0 where
   pub running : Option (ℕ × CardCommand)
   pub took : Took
 
--- what a card that is off will say may be said, and its memory is then that
+-- what a card that is off will say may be said, its memory is then that, and the command that it keeps is the one that
+-- the last loss of power had running
 pub record WillTake (B : Base) (R : Records) (card : CardState) : Type 0 where
   pub may : MayTake B (entries R) card.took
-  pub memory : IfSome card.memory (λ m. m ≡ mem B (entries R ▸ Up card.took))
-  pub running : IfSome card.running (λ r. running (entries R) ≡ Some r)
+  pub memory : card.memory ≡ Some (mem B (entries R ▸ Up card.took))
+  pub running : card.running ≡ running (entries R)
 
 -- the card, with these connections attached, stands for the base and the records
 pub record StandsFor (B : Base) (R : Records) (card : CardState) (attached : ℕ → Option Attached) : Type 0 where
   pub runs : Runs B R
   pub power : card.on ≡ on (entries R)
   pub connections : (c : ℕ) → attached c ≡ (if is_open (entries R) c then Some (attached_of B R c) else None)
-  pub memory : IsTrue card.on → IfSome card.memory (λ m. m ≡ mem B (entries R))
+  pub memory : IsTrue card.on → card.memory ≡ Some (mem B (entries R))
   pub off : IsTrue (not card.on) → WillTake B R card
 
--- what a cell keeps beside its card
-pub record CellState : Type 0 where
-  pub past : Past
-  pub random : List ℕ
-  pub contact_epoch : ℕ
-  pub contactless_epoch : ℕ
-  pub next_number : ℕ
-  pub next_block : List ℕ
-  pub comparisons : RefId → ℕ
-  pub is_shared : ℕ → Bool
-
--- the cell's own fields are those of the records
-pub record CellStandsFor (B : Base) (R : Records) (cell : CellState) : Type 0 where
-  pub past : cell.past ≡ entries R
-  pub random : cell.random ≡ B.random
-  pub contact : cell.contact_epoch ≡ epoch (entries R) Contact
-  pub contactless : cell.contactless_epoch ≡ epoch (entries R) Contactless
-  pub number : cell.next_number ≡ opened_count (entries R) + 1
-  pub block : cell.next_block ≡ next_block B (entries R)
-  pub comparisons : (r : RefId) → cell.comparisons r ≡ comparisons B (entries R) r
-  pub is_shared : (c : ℕ) → IsTrue (is_open (entries R) c) → cell.is_shared c ≡ not (is_exclusive (entries R) c)
+-- a card whose store tells nothing: its history is that of the records, and its turns are as many as it was given
+pub record StandsUntold (given : ℕ) (R : Records) (history : Past) (count : ℕ) : Type 0 where
+  pub past : history ≡ entries R
+  pub turns : count ≡ given

@@ -1,5 +1,5 @@
 -- The status words that the card sends (ISO/IEC 7816-4), as numbers, and the tests on them.
-use Rattle.std.specs.Prelude.{ℕ, ◌+◌, Bool, ◌&&◌, ◌==◌, nat_le, [], ◌∷◌}
+use Rattle.std.specs.Prelude.{ℕ, Bool, ◌&&◌, ◌==◌, nat_le, [], ◌∷◌}
 use Rattle.std.specs.List.{list_any}
 
 -- 90 00: success
@@ -9,10 +9,6 @@ is_granted word = word == 0x9000
 -- 63 C0 to 63 CF: the verification failed, X tries are left
 abbrev pub is_mismatched : ℕ → Bool
 is_mismatched word = nat_le 0x63C0 word && nat_le word 0x63CF
-
--- 63 CX
-abbrev pub tries_word : ℕ → ℕ
-tries_word left = 0x63C0 + left
 
 -- the words of an APDU that is refused before its command is executed
 abbrev pub is_framing_word : ℕ → Bool

@@ -6,15 +6,16 @@ use Rattle.piv_model.specs.declared.history.ActKind.TheVariants as kind
 use Rattle.piv_model.specs.declared.history.Refusal.{Refusal}
 use Rattle.piv_model.specs.declared.history.Refusal.TheVariants as why
 use Rattle.piv_model.specs.Commands.{CardCommand}
+use Rattle.piv_model.specs.StatusWords.{piece_word}
 use Rattle.piv_model.specs.Entries.{CardEntry, Past, Opened, Closed, Call, Part, Rest, Bad, Reset, Cut, Up, Note}
-use Rattle.piv_rules.specs.StatusWords.{is_granted}
 use Rattle.piv_model.specs.Base.{Base}
+use Rattle.piv_rules.specs.StatusWords.{is_granted}
 use Rattle.piv_rules.specs.Connections.{on, is_open, side, epoch}
 use Rattle.piv_rules.specs.Answers.{answer, Reply}
 use Rattle.piv_rules.specs.Losses.{MayTake}
 use Rattle.piv_rules.specs.Legal.{IsAllowed, is_locked, is_full, opened_count, block_borne}
 use Rattle.piv_rules.specs.Acts.{CardAct, Connect, Disconnect, Exchange, ResetSide, CutPower, PowerOn, CardAnswer, Connected, Disconnected, Replied, Mute, Stale, NoConnection, Locked, NoChannel, Off, On, WasReset, WasCut, IsUp, CardRecord, Records, entries}
-use Rattle.piv_rules.specs.Frames.{Frame, BadFrame, PartFrame, RestFrame, WholeFrame, frame, piece_word}
+use Rattle.piv_rules.specs.Frames.{Frame, BadFrame, PartFrame, RestFrame, WholeFrame, frame}
 
 -- why an act changes nothing: the first that holds
 abbrev pub refused : Past → CardAct → Option Refusal

@@ -1,6 +1,6 @@
 // What a command asks, with its data lent from the command.
 
-use piv_model::RefId;
+use piv_model::{Application, RefId};
 
 /// What a comparison is for.
 #[derive(Clone, Copy, Debug)]
@@ -18,8 +18,7 @@ pub enum Aim<'a> {
 pub enum Asked<'a> {
     /// Nothing that can be granted: the status word.
     Refused(u16),
-    /// The PIV application, or the idle one.
-    Select(bool),
+    Select(Application),
     Get(u8),
     Put(u8, &'a [u8]),
     Logout(RefId),

@@ -1,7 +1,8 @@
 // Worked examples on the plain card. Each is the contract of a function that does nothing.
 ghost use Rattle.std.specs.Prelude.{IsTrue};
 ghost use Rattle.piv_model.specs.Base.{is_valid};
-ghost use Rattle.piv_rules.specs.Examples.{plain, LoginOpens, IdleEndsTheLogin, WrongPinsBlock, PukUnblocks, ChangeLogsIn, WrongPukEndsTheLogin, ChallengeIsTheBlock, ChallengeIsAnsweredOnce, PartsJoin, OtherHeadersAreRefused, PiecesEnd, WrongLoginLost, LossesBlock, RightLoginLost, RightLoginDone, LossesArePlanned};
+ghost use Rattle.piv_rules.specs.Examples.{plain, LoginOpens, IdleEndsTheLogin, WrongPinsBlock, PukUnblocks, ChangeLogsIn, WrongPukEndsTheLogin, ChallengeIsTheBlock, ChallengeIsAnsweredOnce, WitnessIsAnswered, PartsJoin, OtherHeadersAreRefused, PiecesEnd, WrongLoginLost, LossesBlock, RightLoginLost, RightLoginDone, UnblockingLost, PutLost, LossesArePlanned};
+ghost use Rattle.piv_rules.specs.ConnectionExamples.{with_global, ContactlessServesLittle, GlobalPinOpens, ExclusiveLocks};
 
 /// What the plain card answers to commands that come one after the other.
 #[tactic(auto, using(crate::proofs::ExampleRows::example_rows, crate::proofs::ChallengeExample::challenge_rows))]
@@ -15,6 +16,7 @@ pub fn answers_on_the_plain_card()
     ensures wrong_puk_ends { WrongPukEndsTheLogin }
     ensures challenge { ChallengeIsTheBlock }
     ensures answered_once { ChallengeIsAnsweredOnce }
+    ensures witness { WitnessIsAnswered }
 {}
 
 /// How the parts of a chain and the pieces of a reply go.
@@ -32,5 +34,16 @@ pub fn losses_on_the_plain_card()
     ensures losses_block { LossesBlock }
     ensures right_login { RightLoginLost }
     ensures right_after_wrong { RightLoginDone }
+    ensures unblocking { UnblockingLost }
+    ensures put { PutLost }
     ensures planned { LossesArePlanned }
+{}
+
+/// What a connection on contactless is answered, what a Global PIN opens, and when an interface is locked.
+#[tactic(auto, using(crate::proofs::ConnectionRows::connection_rows))]
+pub fn connections_on_the_plain_card()
+    ensures contactless { ContactlessServesLittle }
+    ensures valid { IsTrue (is_valid with_global) }
+    ensures global_pin { GlobalPinOpens }
+    ensures locked { ExclusiveLocks }
 {}

@@ -7,14 +7,14 @@ ghost use Rattle.piv_model.specs.Base.{Base, Profile, profile};
 ghost use Rattle.piv_rules.specs.Asks.{ask};
 ghost use Rattle.piv_rules.specs.Connections.{side, breaks, by_call};
 ghost use Rattle.piv_rules.specs.Logins.{compared, ends_if, pin_after, global_after, admin_after, in_force, login_after, pending, pending_by};
-ghost use Rattle.piv_rules.specs.Lent.{ask_of, past_of, login_of, pending_of};
+ghost use Rattle.piv_rules.specs.Lent.{ask_of, past_of, pending_of};
 
 use crate::asked::{Aim, Asked};
-use piv_model::{Command, Entry, Interface, RefId};
+use piv_model::{Application, Command, Entry, Interface, RefId};
 
 /// A login of a connection: by the PIN, by the Global PIN, by the administration key.
 #[derive(Clone, Copy, PartialEq, Eq, Debug)]
-pub enum Status {
+pub enum Login {
     Pin,
     Global,
     Admin,
@@ -22,7 +22,7 @@ pub enum Status {
 
 /// The random block that a connection may still answer.
 #[derive(Clone, Copy, Debug)]
-pub enum Waiting {
+pub enum Pending {
     None,
     Challenge([u8; 16]),
     Witness([u8; 16]),
@@ -92,7 +92,7 @@ fn pin_said(asked: Asked<'_>, sw: u16) -> Option<bool>
         Asked::Compare(RefId::Pin, _, Aim::Verify | Aim::Change(_)) => compared(sw),
         Asked::Compare(RefId::Puk, _, Aim::Unblock(_)) => ends_if(0x63C0 <= sw && sw <= 0x63CF),
         Asked::Logout(RefId::Pin) => ends_if(sw == 0x9000),
-        Asked::Select(false) => ends_if(sw == 0x9000),
+        Asked::Select(Application::Idle) => ends_if(sw == 0x9000),
         _ => None,
     }
 }
@@ -118,15 +118,15 @@ fn admin_said(asked: Asked<'_>, sw: u16, block: Option<[u8; 16]>) -> Option<bool
                 ends_if(block.is_some() || sw == 0x6982)
             }
         }
-        Asked::Select(false) => ends_if(block.is_some() || sw == 0x9000),
+        Asked::Select(Application::Idle) => ends_if(block.is_some() || sw == 0x9000),
         _ => ends_if(block.is_some()),
     }
 }
 
 // What an entry says of a login of a connection, if it is a call on it.
-fn said<A: Asks>(asks: &A, entry: &Entry<'_>, c: u32, status: Status) -> Option<bool>
+fn said<A: Asks>(asks: &A, entry: &Entry<'_>, c: u32, login: Login) -> Option<bool>
     ensures { (B : Base) → A.profile asks.now ≡ profile B
-        → result ≡ by_call (profile B) c (login_after (login_of status)) (entry_of entry.now) }
+        → result ≡ by_call (profile B) c (login_after login) (entry_of entry.now) }
 {
     match entry {
         Entry::Call {
@@ -134,19 +134,19 @@ fn said<A: Asks>(asks: &A, entry: &Entry<'_>, c: u32, status: Status) -> Option<
             command,
             sw,
             block,
-        } if *called == c => match status {
-            Status::Pin => pin_said(asks.asked(*command), *sw),
-            Status::Global => global_said(asks.asked(*command), *sw),
-            Status::Admin => admin_said(asks.asked(*command), *sw, *block),
+        } if *called == c => match login {
+            Login::Pin => pin_said(asks.asked(*command), *sw),
+            Login::Global => global_said(asks.asked(*command), *sw),
+            Login::Admin => admin_said(asks.asked(*command), *sw, *block),
         },
         _ => None,
     }
 }
 
 /// Whether a login of a connection is in force.
-pub fn is_in_force<A: Asks>(asks: &A, entries: &[Entry<'_>], c: u32, status: Status) -> bool
+pub fn is_in_force<A: Asks>(asks: &A, entries: &[Entry<'_>], c: u32, login: Login) -> bool
     ensures { (B : Base) → A.profile asks.now ≡ profile B
-        → result ≡ in_force B (past_of entries.now) c (login_of status) }
+        → result ≡ in_force B (past_of entries.now) c login }
 {
     match entries.split_first() {
         None => false,
@@ -154,35 +154,35 @@ pub fn is_in_force<A: Asks>(asks: &A, entries: &[Entry<'_>], c: u32, status: Sta
             if is_break(entry, before, c) {
                 return false;
             }
-            match said(asks, entry, c, status) {
+            match said(asks, entry, c, login) {
                 Some(set) => set,
-                None => is_in_force(asks, before, c, status),
+                None => is_in_force(asks, before, c, login),
             }
         }
     }
 }
 
 // The block that a call leaves to be answered.
-fn drawn(asked: Asked<'_>, block: Option<[u8; 16]>) -> Waiting
+fn drawn(asked: Asked<'_>, block: Option<[u8; 16]>) -> Pending
     ensures { pending_of result ≡ pending_by (ask_of asked.entry) block }
 {
     match (asked, block) {
-        (Asked::AskChallenge, Some(block)) => Waiting::Challenge(block),
-        (Asked::AskWitness, Some(block)) => Waiting::Witness(block),
-        _ => Waiting::None,
+        (Asked::AskChallenge, Some(block)) => Pending::Challenge(block),
+        (Asked::AskWitness, Some(block)) => Pending::Witness(block),
+        _ => Pending::None,
     }
 }
 
 /// The block that a connection may still answer.
-pub fn pending_on<A: Asks>(asks: &A, entries: &[Entry<'_>], c: u32) -> Waiting
+pub fn pending_on<A: Asks>(asks: &A, entries: &[Entry<'_>], c: u32) -> Pending
     ensures { (B : Base) → A.profile asks.now ≡ profile B
         → pending_of result ≡ pending B (past_of entries.now) c }
 {
     match entries.split_first() {
-        None => Waiting::None,
+        None => Pending::None,
         Some((entry, before)) => {
             if is_break(entry, before, c) {
-                return Waiting::None;
+                return Pending::None;
             }
             match entry {
                 Entry::Call {

@@ -1,12 +1,12 @@
-// A situation as a plain program is given it, and the tests of the table's lines in it.
+// A situation as a plain program is given it, and the conditions of the table's lines in it.
 ghost use Rattle.std.specs.Prelude.{◌≡◌, ◌≤◌, length};
 ghost use Rattle.piv_model.specs.Memory.{fits, reference, stored};
-ghost use Rattle.piv_rules.specs.Answers.{Situation, holds, rule_of, status, is_wrong, answer_to};
-ghost use Rattle.piv_rules.specs.Lent.{ask_of, counter_of, AreFew, AreTests, IsSeen};
+ghost use Rattle.piv_rules.specs.Answers.{Situation, holds, rule_of, status, is_wrong, conditions, answer_to};
+ghost use Rattle.piv_rules.specs.Lent.{ask_of, counter_of, AreFew, IsSeen};
 
 use crate::asked::Asked;
-use crate::lookback::Waiting;
-use crate::table::{Tests, word_of};
+use crate::lookback::Pending;
+use crate::table::{Conditions, word_of};
 use piv_model::{Interface, RefId, Rule};
 
 /// A reference's tries and its secret.
@@ -25,7 +25,7 @@ pub struct Seen<'a> {
     pub pin: bool,
     pub global: bool,
     pub admin: bool,
-    pub pending: Waiting,
+    pub pending: Pending,
     /// The Discovery Object is present and says that the Global PIN counts.
     pub global_counts: bool,
     pub pin_counter: Counter<'a>,
@@ -89,17 +89,17 @@ fn has_room(seen: &Seen<'_>, value: &[u8]) -> bool
     seen.used <= seen.budget && blocks <= seen.budget - seen.used
 }
 
-/// The tests of the table's lines for an ask whose access rule is `rule`. Whether the ask is a
+/// The conditions of the table's lines for an ask whose access rule is `rule`. Whether the ask is a
 /// wrong response to what is pending is told, since the cipher isn't here.
-pub fn tests_of(seen: &Seen<'_>, asked: Asked<'_>, rule: Rule, wrong: bool) -> Tests
+pub fn conditions_of(seen: &Seen<'_>, asked: Asked<'_>, rule: Rule, wrong: bool) -> Conditions
     requires { AreFew seen.now }
     ensures few { result.tries ≤ 15 }
-    ensures tests { (s : Situation) → IsSeen seen.now s
+    ensures lines { (s : Situation) → IsSeen seen.now s
         → rule ≡ rule_of s.interface (ask_of asked.entry)
-        → wrong ≡ is_wrong s.memory.admin s.pending (ask_of asked.entry)
-        → AreTests result s (ask_of asked.entry) }
+        → wrong ≡ is_wrong s.memory.admin s.channel.pending (ask_of asked.entry)
+        → result ≡ conditions s (ask_of asked.entry) }
 {
-    let tests = Tests {
+    let conditions = Conditions {
         piv: seen.piv,
         refusal: None,
         permitted: permits(seen, rule),
@@ -113,51 +113,51 @@ pub fn tests_of(seen: &Seen<'_>, asked: Asked<'_>, rule: Rule, wrong: bool) -> T
         tries: 0,
     };
     match asked {
-        Asked::Refused(word) => Tests {
+        Asked::Refused(word) => Conditions {
             refusal: Some(word),
-            ..tests
+            ..conditions
         },
         Asked::Compare(r, candidate, _) => {
             let counter = counter_at(seen, r);
-            Tests {
+            Conditions {
                 blocked: counter.tries == 0,
                 differs: candidate != counter.secret,
                 tries: counter.tries,
-                ..tests
+                ..conditions
             }
         }
-        Asked::Query(r) => Tests {
+        Asked::Query(r) => Conditions {
             unknown_login: !is_logged_in(seen, r),
             tries: counter_at(seen, r).tries,
-            ..tests
+            ..conditions
         },
-        Asked::External(_) => Tests {
-            lacks_pending: !matches!(seen.pending, Waiting::Challenge(_)),
-            ..tests
+        Asked::External(_) => Conditions {
+            lacks_pending: !matches!(seen.pending, Pending::Challenge(_)),
+            ..conditions
         },
-        Asked::Mutual(_, _) => Tests {
-            lacks_pending: !matches!(seen.pending, Waiting::Witness(_)),
-            ..tests
+        Asked::Mutual(_, _) => Conditions {
+            lacks_pending: !matches!(seen.pending, Pending::Witness(_)),
+            ..conditions
         },
-        Asked::Get(id) => Tests {
+        Asked::Get(id) => Conditions {
             absent: stored_length(seen, id) == 0,
-            ..tests
+            ..conditions
         },
-        Asked::Put(_, value) => Tests {
+        Asked::Put(_, value) => Conditions {
             no_room: !has_room(seen, value),
-            ..tests
+            ..conditions
         },
         Asked::Select(_)
         | Asked::Logout(_)
         | Asked::Internal(_)
         | Asked::AskChallenge
-        | Asked::AskWitness => tests,
+        | Asked::AskWitness => conditions,
     }
 }
 
 // The login of a reference is in force; the PUK has none.
 fn is_logged_in(seen: &Seen<'_>, r: RefId) -> bool
-    ensures { (s : Situation) → IsSeen seen.now s → result ≡ status s r }
+    ensures { (s : Situation) → IsSeen seen.now s → result ≡ status s.channel r }
 {
     match r {
         RefId::Pin => seen.pin,
@@ -167,12 +167,13 @@ fn is_logged_in(seen: &Seen<'_>, r: RefId) -> bool
 }
 
 /// The status word of an ask in a situation, SELECT apart: the first line of the table that fits.
+#[tactic(auto, using(crate::proofs::TableLaws::table_words))]
 pub fn answer_word(seen: &Seen<'_>, asked: Asked<'_>, rule: Rule, wrong: bool) -> u16
     requires { AreFew seen.now }
     ensures { (s : Situation) → IsSeen seen.now s
         → rule ≡ rule_of s.interface (ask_of asked.entry)
-        → wrong ≡ is_wrong s.memory.admin s.pending (ask_of asked.entry)
+        → wrong ≡ is_wrong s.memory.admin s.channel.pending (ask_of asked.entry)
         → result ≡ (answer_to s (ask_of asked.entry)).word }
 {
-    word_of(&tests_of(seen, asked, rule, wrong))
+    word_of(&conditions_of(seen, asked, rule, wrong))
 }

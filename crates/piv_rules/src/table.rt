@@ -1,12 +1,10 @@
 // The ordered table of answers, as a plain program.
 ghost use Rattle.std.specs.Prelude.{◌≡◌, ◌≤◌};
-ghost use Rattle.piv_rules.specs.Asks.{Ask};
-ghost use Rattle.piv_rules.specs.Answers.{Situation, answer_to};
-ghost use Rattle.piv_rules.specs.Lent.{AreTests};
+ghost use Rattle.piv_rules.specs.Answers.{word_by};
 
-/// The tests of the table's lines for an ask in a situation, and the numbers that its words carry.
+/// What the lines of the table test of an ask in a situation, and the tries that its words tell.
 #[derive(Clone, Copy, Debug)]
-pub struct Tests {
+pub struct Conditions {
     /// The PIV application is selected.
     pub piv: bool,
     /// The word of a command of no good form.
@@ -25,30 +23,29 @@ pub struct Tests {
 }
 
 /// The status word of the first line that fits. SELECT has a line of its own and isn't asked here.
-#[tactic(auto, unfolding(crate::specs::Answers::answer_to))]
-pub fn word_of(tests: &Tests) -> u16
-    requires { tests.now.tries ≤ 15 }
-    ensures { (s : Situation) (a : Ask) → AreTests tests.now s a → result ≡ (answer_to s a).word }
+pub fn word_of(conditions: &Conditions) -> u16
+    requires { conditions.now.tries ≤ 15 }
+    ensures { result ≡ word_by conditions.now }
 {
-    if !tests.piv {
+    if !conditions.piv {
         0x6D00
-    } else if let Some(word) = tests.refusal {
+    } else if let Some(word) = conditions.refusal {
         word
-    } else if !tests.permitted {
+    } else if !conditions.permitted {
         0x6982
-    } else if tests.lacks_pending {
+    } else if conditions.lacks_pending {
         0x6A80
-    } else if tests.wrong {
+    } else if conditions.wrong {
         0x6982
-    } else if tests.blocked {
+    } else if conditions.blocked {
         0x6983
-    } else if tests.differs {
-        0x63C0 + (tests.tries.saturating_sub(1) as u16)
-    } else if tests.unknown_login {
-        0x63C0 + (tests.tries as u16)
-    } else if tests.absent {
+    } else if conditions.differs {
+        0x63C0 + (conditions.tries.saturating_sub(1) as u16)
+    } else if conditions.unknown_login {
+        0x63C0 + (conditions.tries as u16)
+    } else if conditions.absent {
         0x6A82
-    } else if tests.no_room {
+    } else if conditions.no_room {
         0x6A84
     } else {
         0x9000

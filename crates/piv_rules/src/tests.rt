@@ -1,16 +1,9 @@
 use super::*;
-use piv_model::{Command, Entry, Interface, RefId, Rule, Took};
+use piv_model::application_names::{FULL, IDLE, TRUNCATED, application_by_name};
+use piv_model::{Application, Command, Entry, Interface, RefId, Rule, Took};
 
 // A reader of SELECT and VERIFY, for a card that serves only these.
 struct Reader;
-
-static FULL_AID: [u8; 11] = [
-    0xA0, 0x00, 0x00, 0x03, 0x08, 0x00, 0x00, 0x10, 0x00, 0x01, 0x00,
-];
-
-static SHORT_AID: [u8; 9] = [0xA0, 0x00, 0x00, 0x03, 0x08, 0x00, 0x00, 0x10, 0x00];
-
-static IDLE_AID: [u8; 5] = [0xF0, 0x49, 0x44, 0x4C, 0x45];
 
 ghost use Rattle.std.specs.Prelude.{◌≡◌, ◌∷◌, [], false};
 ghost use Rattle.piv_model.specs.Base.{Profile};
@@ -25,13 +18,11 @@ fn select_asked(command: Command<'_>) -> Asked<'_>
     ensures { ask_of result ≡ select_ask (command_of command.entry) }
 {
     if command.p1 != 0x04 || command.p2 != 0x00 {
-        Asked::Refused(0x6A86)
-    } else if command.body == &FULL_AID[..] || command.body == &SHORT_AID[..] {
-        Asked::Select(true)
-    } else if command.body == &IDLE_AID[..] {
-        Asked::Select(false)
-    } else {
-        Asked::Refused(0x6A82)
+        return Asked::Refused(0x6A86);
+    }
+    match application_by_name(command.body) {
+        Some(application) => Asked::Select(application),
+        None => Asked::Refused(0x6A82),
     }
 }
 
@@ -145,13 +136,13 @@ fn opened(c: u32, interface: Interface) -> Entry<'static> {
 }
 
 fn is_logged_in(entries: &[Entry<'_>], c: u32) -> bool {
-    is_in_force(&Reader, entries, c, Status::Pin)
+    is_in_force(&Reader, entries, c, Login::Pin)
 }
 
 #[test]
 fn a_login_lasts_until_a_break_and_no_longer(rt: HostRuntime) {
-    let select = called(0xA4, 0x04, 0x00, &SHORT_AID, 0x9000);
-    let idle = called(0xA4, 0x04, 0x00, &IDLE_AID, 0x9000);
+    let select = called(0xA4, 0x04, 0x00, &TRUNCATED, 0x9000);
+    let idle = called(0xA4, 0x04, 0x00, &IDLE, 0x9000);
     let login = verified(&RIGHT, 0x9000);
     let log_out = called(0x20, 0xFF, 0x80, &[], 0x9000);
     let cut = Entry::Cut { running: None };
@@ -172,8 +163,8 @@ fn a_login_lasts_until_a_break_and_no_longer(rt: HostRuntime) {
     };
     assert!(rt; !is_logged_in(&[front, login, select, start], 1));
     assert!(rt; is_logged_in(&[gate, login, select, start], 1));
-    assert!(rt; !is_in_force(&Reader, &[login, select, start], 1, Status::Global));
-    assert!(rt; !is_in_force(&Reader, &[login, select, start], 1, Status::Admin));
+    assert!(rt; !is_in_force(&Reader, &[login, select, start], 1, Login::Global));
+    assert!(rt; !is_in_force(&Reader, &[login, select, start], 1, Login::Admin));
 }
 
 #[test]
@@ -220,7 +211,7 @@ fn tries_are_spent_by_mismatches_and_losses_and_filled_by_matches(rt: HostRuntim
 #[test]
 fn nothing_is_pending_without_a_challenge(rt: HostRuntime) {
     let start = opened(1, Interface::Contactless);
-    assert!(rt; matches!(pending_on(&Reader, &[start], 1), Waiting::None));
+    assert!(rt; matches!(pending_on(&Reader, &[start], 1), Pending::None));
     assert_eq!(rt; side_of(&[start], 1), Interface::Contactless);
     assert!(rt; is_break(&start, &[], 1));
 }
@@ -245,7 +236,7 @@ fn seen() -> Seen<'static>
         pin: false,
         global: false,
         admin: false,
-        pending: Waiting::None,
+        pending: Pending::None,
         global_counts: false,
         pin_counter: Counter {
             tries: 3,
@@ -299,7 +290,7 @@ fn the_first_line_that_fits_decides(rt: HostRuntime) {
         ..start
     };
     let challenged = Seen {
-        pending: Waiting::Challenge([0; 16]),
+        pending: Pending::Challenge([0; 16]),
         ..start
     };
     let right = Asked::Compare(RefId::Pin, &RIGHT, Aim::Verify);
@@ -341,7 +332,7 @@ fn the_first_line_that_fits_decides(rt: HostRuntime) {
         0x6982
     );
     assert_eq!(rt;
-        word_of(&tests_of(&start, right, Rule::ContactUse, false)),
+        word_of(&conditions_of(&start, right, Rule::ContactUse, false)),
         0x9000
     );
     for (situation, asked, rule, word) in table {

@@ -1,6 +1,7 @@
 use Rattle.std.proofs.Common.{◌≡◌, ◌<◌, ◌≤◌, ◌+◌, ◌++◌, length, take, drop, ap, ◌∙◌, arith, rules, length-append}
 use Rattle.std.proofs.lemmas.List.{length-take, take-append-le}
-use Rattle.piv_ports.proofs.Pieces.{AreFirst_twice, after_first_bytes_twice, all_read, none_left}
+use Rattle.std.proofs.lemmas.Result.{err_from_is_err_and}
+use Rattle.piv_ports.proofs.Pieces.{AreFirst_twice, TakesAtMost-twice, after_first_bytes_twice, all_read, none_left}
 use Rattle.piv_ports.proofs.source.read_all.Goals as goal
 use Rattle.piv_ports.proofs.source.read_all.Goals.{then-room-lt-CHUNK, else-room-lt-CHUNK}
 
@@ -32,23 +33,11 @@ returns-then-n-room-clause-taken g c =
     let fits : c.in-Ok.n ≤ c.if-room-lt-CHUNK.want = grind (arith, c.in-Ok.ensures.fits, length-take) in
     let within : length c.reads.bytes.items + c.in-Ok.n ≤ c.args.most + 1 =
     elim c.if-room-lt-CHUNK.branch [ then-room-lt-CHUNK w ↦ grind (arith, fits, w.want-is, c.reads.invariant.room) | else-room-lt-CHUNK w ↦ grind (arith, fits, w.want-is, w.if-room-lt-CHUNK.false, c.reads.invariant.room) ] in
-    record {
-      some = (
-        length c.reads.bytes.items + c.in-Ok.n,
-        within,
-        rw (c.in-Ok.ensures.rest, c.reads.invariant.rest) (after_first_bytes_twice _ _ _),
-        rw (c.in-Ok.ensures.count, c.reads.invariant.count) (omega arith),
-      );
-    }
+    TakesAtMost-twice _ _ _ _ _ _ _ _ _ within c.reads.invariant.rest c.in-Ok.ensures.rest c.reads.invariant.count c.in-Ok.ensures.count
 
 pub returns-in_err-extend_from_slice-in-Ok-clause-taken : goal.returns-in_err-extend_from_slice-in-Ok-clause-taken
 returns-in_err-extend_from_slice-in-Ok-clause-taken g c =
-    let within : length c.reads.bytes.items + c.in-Ok.n ≤ c.args.most + 1 = grind (arith, c.if-n-room.false, c.reads.invariant.room) in
-    record {
-      some = (
-        length c.reads.bytes.items + c.in-Ok.n,
-        within,
-        rw (c.in-Ok.ensures.rest, c.reads.invariant.rest) (after_first_bytes_twice _ _ _),
-        rw (c.in-Ok.ensures.count, c.reads.invariant.count) (omega arith),
-      );
-    }
+    let stop = err_from_is_err_and c.from_residual.result c.from_residual.ensures.1 in
+    let within : length c.reads.bytes.items + c.in-Ok.n ≤ c.args.most = grind (arith, c.if-n-room.false, c.reads.invariant.room) in
+    rw (stop.1, stop.2)
+    (TakesAtMost-twice _ _ _ _ _ _ _ _ _ within c.reads.invariant.rest c.in-Ok.ensures.rest c.reads.invariant.count c.in-Ok.ensures.count)

@@ -6,4 +6,4 @@ use Rattle.card_app.proofs.card.Card.new.Goals as goal
 pub returns-clause-stands : goal.returns-clause-stands
 returns-clause-stands g c B serves memory =
     let sound = rw memory at (g.met.S.Store.sound c.args.store) in
-    stands-new g.S.Store.state _ B serves sound.places memory refl
+    stands-new g.S.Store.state _ B serves sound.places memory c.requires refl

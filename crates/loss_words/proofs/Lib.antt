@@ -1,2 +1,0 @@
-pub mod DueLaws
-pub mod EachLaws

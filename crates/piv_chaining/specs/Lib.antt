@@ -1,0 +1,5 @@
+pub mod Chains
+pub mod Waiting
+pub mod Fed
+pub mod Filling
+pub mod Cuttings

@@ -1,0 +1,11 @@
+-- A frame, by what an APDU makes of the open chain.
+use Rattle.std.proofs.Common.{refl}
+use Rattle.piv_rules.specs.FrameLaws.{CommandsAreLinked, PiecesAreFetched}
+
+pub frame-linked : CommandsAreLinked
+frame-linked serves a chained waiting other = rw other refl
+
+pub frame-fetches : PiecesAreFetched
+frame-fetches serves a waiting is = rw is refl
+
+pub ruleset frame_ties = (frame-linked, frame-fetches)

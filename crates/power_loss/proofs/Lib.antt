@@ -1,0 +1,4 @@
+pub mod DueLaws
+pub mod EachLaws
+pub mod PowerLaws
+pub mod PlanLaws

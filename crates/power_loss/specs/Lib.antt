@@ -1,0 +1,4 @@
+pub mod Due
+pub mod Told
+pub mod Power
+pub mod Plans
