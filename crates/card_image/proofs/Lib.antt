@@ -1,0 +1,13 @@
+pub mod Heads
+pub mod Changing
+pub mod ObjectsPut
+pub mod GlobalPins
+pub mod Counters
+pub mod WrittenReferences
+pub mod KeysRead
+pub mod Compared
+pub mod Layouts
+pub mod Decided
+pub mod HeaderLaid
+pub mod EmptyPieces
+pub mod Marked
