@@ -1,0 +1,4 @@
+pub mod DecimalSteps
+pub mod HexSteps
+pub mod EntryParts
+pub mod PrintSteps

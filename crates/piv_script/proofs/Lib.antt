@@ -1,0 +1,4 @@
+mod EntryWordLaws
+mod EntryLaws
+mod TextLaws
+mod HistoryLaws
