@@ -1,5 +1,5 @@
 // Command APDUs: a header, Lc with the data, and Le.
-ghost use Rattle.std.specs.Prelude.{◌≡◌, ◌⊎◌, ◌≤◌, [], length, None, Some, IfOk, MatchResult};
+ghost use Rattle.std.specs.Prelude.{◌≡◌, ◌⊎◌, ◌≤◌, [], length, take, drop, None, Some, IfOk, MatchResult};
 ghost use Rattle.piv_model.specs.Commands.{apdu_of, command_of};
 ghost use Rattle.piv_model.specs.ApduForms.{apdu_of_header, apdu_spelled, command_bytes, most_of, most_with, refusal_of_class};
 
@@ -55,6 +55,9 @@ pub fn read_apdu(bytes: &[u8]) -> Result<Apdu<'_>, u16>
         (λ apdu. apdu_spelled bytes.now ≡ Ok (apdu_of apdu))
         (λ word. apdu_spelled bytes.now ≡ Err word) }
     ensures small { IfOk result (λ apdu. length apdu.body.now ≤ 255) }
+
+    // The data are a slice of the input, behind the header and Lc.
+    ensures lent { IfOk result (λ apdu. apdu.body.now ≡ take (length apdu.body.now) (drop 5 bytes.now)) }
     ensures most { IfOk result (λ apdu. (1 ≤ apdu.most) × (apdu.most ≤ 256)) }
 {
     if bytes.len() < 4 {

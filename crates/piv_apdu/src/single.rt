@@ -1,5 +1,5 @@
 // Commands of the basic logical channel that are no part of a chain.
-ghost use Rattle.std.specs.Prelude.{◌≡◌, ◌≤◌, length, IfOk, MatchResult};
+ghost use Rattle.std.specs.Prelude.{◌≡◌, ◌≤◌, length, take, drop, IfOk, MatchResult};
 ghost use Rattle.piv_model.specs.Commands.{apdu_of};
 ghost use Rattle.piv_model.specs.Framing.{framing};
 
@@ -15,6 +15,9 @@ pub fn read_command(bytes: &[u8]) -> Result<Apdu<'_>, u16>
         (λ apdu. framing bytes.now ≡ Ok (apdu_of apdu))
         (λ word. framing bytes.now ≡ Err word) }
     ensures small { IfOk result (λ apdu. length apdu.body.now ≤ 255) }
+
+    // The data are a slice of the input, behind the header and Lc.
+    ensures lent { IfOk result (λ apdu. apdu.body.now ≡ take (length apdu.body.now) (drop 5 bytes.now)) }
     ensures most { IfOk result (λ apdu. (1 ≤ apdu.most) × (apdu.most ≤ 256)) }
 {
     if bytes.len() < 4 {
