@@ -9,7 +9,6 @@ use piv_chaining::Pieces;
 use piv_model::Interface::{Contact, Contactless};
 use piv_model::{Command, Interface, NoMemory, Start, StartGlobal, Store, plain_start};
 use std::alloc::Global;
-use std::process::Abort;
 use std::test::Fail;
 
 // The plain card's first random block: the beginning of the key stream of ChaCha20 for a key, a nonce and a counter of zeros.
@@ -129,17 +128,13 @@ fn losing_card(alloc: Global, write: u64, how: Leaves) -> Result<Card<MemoryStor
 }
 
 // Each row is a command and its answer.
-fn expect<S: Store>(
-    rt: &impl Abort,
-    alloc: Global,
-    card: &mut Card<S>,
-    rows: &str,
-) -> Result<(), Fail> {
+fn expect<S: Store>(alloc: Global, card: &mut Card<S>, rows: &str) -> Result<(), Fail> {
     for row in rows.lines() {
         if let Some((apdu, want)) = row.trim().split_once(' ') {
             if apdu != "#" {
                 let answer = card.send(alloc, spelled(apdu))?;
-                assert_eq!(rt; answer.as_str(), spelled(want), "{apdu}");
+                let is_wanted = answer.as_str() == spelled(want);
+                is_wanted.then_some(()).ok_or("another answer")?;
             }
         }
     }
@@ -172,7 +167,7 @@ fn a_login_opens_an_object_until_another_application_is_selected(
         select template
         printed 6982
     ";
-    expect(&rt, alloc, &mut card, rows)
+    expect(alloc, &mut card, rows)
 }
 
 #[test]
@@ -200,7 +195,7 @@ fn wrong_pins_block_the_pin_and_the_puk_unblocks_it(rt: HostRuntime) -> Result<(
         0020008008363534333231FFFF 9000
         query 9000
     ";
-    expect(&rt, alloc, &mut card, rows)
+    expect(alloc, &mut card, rows)
 }
 
 #[test]
@@ -228,7 +223,7 @@ fn a_change_logs_in_and_a_mismatch_ends_the_login(rt: HostRuntime) -> Result<(),
         query 63C3
         login 9000
     ";
-    expect(&rt, alloc, &mut card, rows)
+    expect(alloc, &mut card, rows)
 }
 
 #[test]
@@ -255,7 +250,7 @@ fn a_challenge_is_answered_once(rt: HostRuntime) -> Result<(), Fail> {
         challenge challenged
         00DB3FFF0B5C035FC10253043E01FE00 6982
     ";
-    expect(&rt, alloc, &mut card, rows)?;
+    expect(alloc, &mut card, rows)?;
     assert_eq!(rt; card.draws, 4);
     Ok(())
 }
@@ -276,7 +271,7 @@ fn a_witness_is_answered_with_its_block(rt: HostRuntime) -> Result<(), Fail> {
         0087089B267C24801076B8E0ADA0F13D90405D6AE55386BD28811000112233445566778899AABBCCDDEEFF 6A80
         00DB3FFF075C035FC1025300 6982
     ";
-    expect(&rt, alloc, &mut card, rows)?;
+    expect(alloc, &mut card, rows)?;
     assert_eq!(rt; card.draws, 3);
     Ok(())
 }
@@ -305,7 +300,7 @@ fn objects_are_put_and_removed_by_an_administrator(rt: HostRuntime) -> Result<()
         select template
         00DB3FFF0B5C035FC10253043E01FE00 6982
     ";
-    expect(&rt, alloc, &mut card, rows)
+    expect(alloc, &mut card, rows)
 }
 
 // The plain card's start, with a budget of five blocks.
@@ -352,18 +347,18 @@ fn a_put_needs_room(rt: HostRuntime) -> Result<(), Fail> {
     // The objects of the small card take three blocks of its five.
     let mut small = card_of(alloc, &small_start(alloc)?, &[])?;
     assert_eq!(rt; put(&mut small, alloc, 256)?.as_str(), "6D00");
-    expect(&rt, alloc, &mut small, "select template")?;
+    expect(alloc, &mut small, "select template")?;
     assert_eq!(rt; put(&mut small, alloc, 256)?.as_str(), "6982");
-    expect(&rt, alloc, &mut small, administrator)?;
+    expect(alloc, &mut small, administrator)?;
     assert_eq!(rt; put(&mut small, alloc, 256)?.as_str(), "6A84");
     let mut plain = plain_card(alloc)?;
-    expect(&rt, alloc, &mut plain, administrator)?;
+    expect(alloc, &mut plain, administrator)?;
     assert_eq!(rt; put(&mut plain, alloc, 16_385)?.as_str(), "6A84");
     assert_eq!(rt; put(&mut plain, alloc, 16_384)?.as_str(), "9000");
     let rows = "
         login 9000
     ";
-    expect(&rt, alloc, &mut plain, rows)?;
+    expect(alloc, &mut plain, rows)?;
     let got = plain.send(alloc, spelled("printed"))?;
     assert!(rt; got.as_str().starts_with("53824000A5A5"));
     assert_eq!(rt; plain.out.waiting(), 16_388 - 256);
@@ -403,14 +398,14 @@ fn the_first_rule_that_fails_decides(rt: HostRuntime) -> Result<(), Fail> {
         wrong 63C0
         wrong 6983
     ";
-    expect(&rt, alloc, &mut card, rows)?;
+    expect(alloc, &mut card, rows)?;
     card.interface = Contactless;
     let rows = "
         wrong 6982
         zeros 6982
         00200081 6A88
     ";
-    expect(&rt, alloc, &mut card, rows)
+    expect(alloc, &mut card, rows)
 }
 
 #[test]
@@ -423,7 +418,7 @@ fn without_contact_no_login_is_asked_given_or_used(rt: HostRuntime) -> Result<()
         challenge challenged
         response 9000
     ";
-    expect(&rt, alloc, &mut card, logged_in)?;
+    expect(alloc, &mut card, logged_in)?;
     card.interface = Contactless;
     let rows = "
         chuid 53043E00FE009000
@@ -440,14 +435,14 @@ fn without_contact_no_login_is_asked_given_or_used(rt: HostRuntime) -> Result<()
         challenge 6982
         0087089E167C148200811000112233445566778899AABBCCDDEEFF00 7C12821069C4E0D86A7B0430D8CDB78070B4C55A9000
     ";
-    expect(&rt, alloc, &mut card, rows)?;
+    expect(alloc, &mut card, rows)?;
     card.interface = Contact;
     // The refusals have ended no login.
     let rows = "
         query 9000
         00DB3FFF075C035FC1025300 9000
     ";
-    expect(&rt, alloc, &mut card, rows)
+    expect(alloc, &mut card, rows)
 }
 
 // The plain card's start, with a Global PIN.
@@ -494,7 +489,7 @@ fn a_global_pin_counts_where_the_discovery_object_says_so(rt: HostRuntime) -> Re
         00200000 9000
         0020000008393837363534FFFF 63C2
     ";
-    expect(&rt, alloc, &mut card, rows)
+    expect(alloc, &mut card, rows)
 }
 
 // The plain card's start, with other limits of its references.
@@ -520,7 +515,7 @@ fn a_counter_has_one_to_fifteen_tries(rt: HostRuntime) -> Result<(), Fail> {
         wrong 63C0
         login 6983
     ";
-    expect(&rt, alloc, &mut one, rows)?;
+    expect(alloc, &mut one, rows)?;
     let mut fifteen = card_of(alloc, &limited_start(alloc, 15)?, &[])?;
     let rows = "
         select template
@@ -530,7 +525,7 @@ fn a_counter_has_one_to_fifteen_tries(rt: HostRuntime) -> Result<(), Fail> {
         0020FF80 9000
         query 63CF
     ";
-    expect(&rt, alloc, &mut fifteen, rows)
+    expect(alloc, &mut fifteen, rows)
 }
 
 // A comparison spends a try in its first two writes, and fills the counter in the next two. Each row is a command, the
@@ -561,12 +556,13 @@ fn what_is_said_of_a_lost_command_is_what_its_memory_shows(rt: HostRuntime) -> R
         (unblocking, 3, old, "Spent", "63C3", "9000"),
         (unblocking, 3, new, "Done", "63C3", "63C2"),
     ] {
-        for write in first..first + 2 {
+        for later in 0..2 {
+            let write = u64::saturating_add(first, later);
             let mut card = losing_card(alloc, write, leaves)?;
-            expect(&rt, alloc, &mut card, "select template")?;
+            expect(alloc, &mut card, "select template")?;
             let lost = card.send(alloc, spelled(command))?;
             assert_eq!(rt; lost.as_str(), said, "{command}, {write}");
-            expect(&rt, alloc, &mut card, "login 6D00\nselect template")?;
+            expect(alloc, &mut card, "login 6D00\nselect template")?;
             let tries = card.send(alloc, spelled("query"))?;
             assert_eq!(rt; tries.as_str(), left, "{command}, {write}");
             let answer = card.send(alloc, spelled("login"))?;
@@ -592,10 +588,10 @@ fn a_lost_put_leaves_the_old_or_the_new_value(rt: HostRuntime) -> Result<(), Fai
         for write in 1..4 {
             let mut card = losing_card(alloc, write, leaves)?;
             let rows = "select template\nchallenge challenged\nresponse 9000";
-            expect(&rt, alloc, &mut card, rows)?;
+            expect(alloc, &mut card, rows)?;
             let lost = card.send(alloc, command)?;
             assert_eq!(rt; lost.as_str(), said, "{command}, {write}");
-            expect(&rt, alloc, &mut card, "select template")?;
+            expect(alloc, &mut card, "select template")?;
             let got = card.send(alloc, spelled("chuid"))?;
             assert_eq!(rt; got.as_str(), value, "{command}, {write}");
         }
