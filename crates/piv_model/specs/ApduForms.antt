@@ -1,5 +1,5 @@
 -- How the bytes of a command APDU and of a reply APDU are read and written (ISO/IEC 7816-4, the short forms).
-use Rattle.std.specs.Prelude.{ℕ, ◌+◌, ◌-◌, ◌*◌, ◌/◌, ◌%◌, Bool, ◌||◌, ◌==◌, nat_lt, if◌then◌else◌, List, [], ◌∷◌, ◌++◌, length, take, drop, slice_index, Option, Some, None, Result, Ok, Err}
+use Rattle.std.specs.Prelude.{ℕ, ◌+◌, ◌-◌, ◌*◌, Bool, ◌||◌, ◌==◌, nat_lt, if◌then◌else◌, List, [], ◌∷◌, ◌++◌, length, take, drop, slice_index, Option, Some, None, Result, Ok, Err}
 use Rattle.piv_model.specs.Commands.{CardCommand, CardApdu}
 
 -- 01, 02, 03, 11, 12 and 13: another logical channel than the first

@@ -56,5 +56,5 @@ plain_memory = record {
   objects = plain_objects;
 }
 
-abbrev pub plain_base : List ℕ → Base
-plain_base serves = record { memory = plain_memory; random = replicate 32 0; serves = serves }
+abbrev pub plain_base : Base
+plain_base = record { memory = plain_memory; random = replicate 32 0 }

@@ -21,6 +21,7 @@ pub enum Limit {
     Schedule,
     LimitPin,
     LimitPuk,
+    LimitGlobal,
     Budget,
     Losses,
     Object,

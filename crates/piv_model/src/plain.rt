@@ -4,6 +4,7 @@ ghost use Rattle.piv_model.specs.Starts.{memory_of_start, SpellsMemory};
 ghost use Rattle.piv_model.specs.PlainCard.{plain_memory, plain_pairs, plain_admin_key, plain_card_key, filled_up};
 
 use crate::discovery::discovery_value;
+use crate::limits::MOST_BLOCKS;
 use crate::no_memory::NoMemory;
 use crate::objects::ObjectId;
 use crate::start::{KeyBytes, Start, StartGlobal, StartObjects};
@@ -70,7 +71,7 @@ pub fn plain_start(alloc: Global) -> Result<Start, NoMemory>
         global: NO_GLOBAL_PIN,
         admin: ADMIN_KEY,
         card_auth: CARD_AUTHENTICATION_KEY,
-        budget: 2048,
+        budget: MOST_BLOCKS as u16,
         random: [0; 32],
         objects,
     })

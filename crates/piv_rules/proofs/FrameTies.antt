@@ -3,9 +3,9 @@ use Rattle.std.proofs.Common.{refl}
 use Rattle.piv_rules.specs.FrameLaws.{CommandsAreLinked, PiecesAreFetched}
 
 pub frame-linked : CommandsAreLinked
-frame-linked serves a chained waiting other = rw other refl
+frame-linked a chained waiting other = rw other refl
 
 pub frame-fetches : PiecesAreFetched
-frame-fetches serves a waiting is = rw is refl
+frame-fetches a waiting is = rw is refl
 
 pub ruleset frame_ties = (frame-linked, frame-fetches)

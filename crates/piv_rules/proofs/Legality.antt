@@ -10,7 +10,7 @@ use Rattle.piv_model.specs.declared.history.Refusal.{Refusal}
 use Rattle.piv_model.specs.declared.history.Refusal.TheVariants as why
 use Rattle.piv_model.specs.Commands.{CardCommand, CardApdu}
 use Rattle.piv_model.specs.Chains.{RefusedBy, linked, sized, extended, goes_on}
-use Rattle.piv_model.specs.Framing.{framing, after_header, apdu_with}
+use Rattle.piv_model.specs.ApduForms.{apdu_spelled, apdu_after_header, apdu_of_header, apdu_of_class, refusal_of_class, most_of, is_other_channel}
 use Rattle.piv_model.specs.Entries.{CardEntry, Past, Opened, Closed, Call, Part, Rest, Bad, Reset, Cut, Up, Note}
 use Rattle.piv_model.specs.Base.{Base}
 use Rattle.piv_rules.specs.StatusWords.{is_granted, is_framing_word}
@@ -93,21 +93,43 @@ is_sound_frame PartFrame = true
 is_sound_frame (RestFrame piece w) = nat_lt 0 (length piece)
 is_sound_frame (WholeFrame k most) = nat_lt 0 most
 
-after_header-sound : (bytes rest : List ℕ) → is_sound_apdu (after_header bytes rest) ≡ true
-after_header-sound bytes [] = refl
-after_header-sound bytes (le ∷ []) = grind (arith, nat_tests)
-after_header-sound bytes (lc ∷ b ∷ rest) = go lc (b ∷ rest)
-  where
-    go : (lc : ℕ) (rest : List ℕ) → is_sound_apdu (if lc == 0 then Err 0x6700
-        else if length rest == lc then Ok (apdu_with bytes rest)
-        else if not (length rest == lc + 1) then Err 0x6700
-        else if slice_index rest lc == 0 then Ok (apdu_with bytes (take lc rest))
-        else Err 0x6700) ≡ true
-    go lc rest = grind (arith, nat_tests)
+most_of-sound : (le : ℕ) → nat_lt 0 (most_of le) ≡ true
+most_of-sound le = grind (arith, nat_tests)
 
-framing-sound : (bytes : List ℕ) → is_sound_apdu (framing bytes) ≡ true
-unfolding framing
-framing-sound bytes = let h = after_header-sound bytes (drop 4 bytes) in grind (arith, nat_tests)
+after_header-sound : (bytes rest : List ℕ) → is_sound_apdu (apdu_after_header bytes rest) ≡ true
+after_header-sound bytes [] = refl
+after_header-sound bytes (le ∷ []) = most_of-sound le
+after_header-sound bytes (lc ∷ b ∷ rest) = go lc (b ∷ rest) (most_of-sound (slice_index (b ∷ rest) lc))
+  where
+    go : (lc : ℕ) (rest : List ℕ) → nat_lt 0 (most_of (slice_index rest lc)) ≡ true
+        → is_sound_apdu (if lc == 0 then Err 0x6700
+        else if length rest == lc then Ok (apdu_of_header bytes rest 256)
+        else if length rest == lc + 1 then Ok (apdu_of_header bytes (take lc rest) (most_of (slice_index rest lc)))
+        else Err 0x6700) ≡ true
+    go lc rest h =
+        if-has is_sound_apdu (lc == 0) _ _ refl
+        (if-has is_sound_apdu (length rest == lc) _ _ refl (if-has is_sound_apdu (length rest == lc + 1) _ _ h refl))
+
+-- a word that refuses a class is one of framing
+abbrev is_sound_refusal : Option ℕ → Bool
+is_sound_refusal None = true
+is_sound_refusal (Some w) = is_framing_word w
+
+refusal-sound : (class : ℕ) → is_sound_refusal (refusal_of_class class) ≡ true
+refusal-sound class =
+    if-has is_sound_refusal ((class == 0x00) || (class == 0x10)) _ _ refl
+    (if-has is_sound_refusal ((class == 0x0C) || (class == 0x1C)) _ _ refl
+    (if-has is_sound_refusal (is_other_channel class) _ _ refl refl))
+
+class-sound : (o : Option ℕ) (bytes : List ℕ) → is_sound_refusal o ≡ true → is_sound_apdu (apdu_of_class o bytes) ≡ true
+class-sound None bytes h = after_header-sound bytes (drop 4 bytes)
+class-sound (Some w) bytes h = h
+
+framing-sound : (bytes : List ℕ) → is_sound_apdu (apdu_spelled bytes) ≡ true
+unfolding apdu_spelled
+framing-sound bytes =
+    if-has is_sound_apdu (nat_lt (length bytes) 4) _ _ refl
+    (class-sound (refusal_of_class (slice_index bytes 0)) bytes (refusal-sound (slice_index bytes 0)))
 
 no_zero : nat_lt 0 0 ≡ true → ⊥
 no_zero h = cc
@@ -133,16 +155,16 @@ fetched-sound : (k : CardCommand) (most : ℕ) (waiting : List ℕ) → is_sound
     → is_sound_frame (get_response k most waiting) ≡ true
 fetched-sound k most waiting h = grind (arith, nat_tests)
 
-frame_of-sound : (serves : List ℕ) (x : Result CardApdu ℕ) (chained : Option CardCommand) (waiting : List ℕ)
-    → is_sound_apdu x ≡ true → is_sound_frame (frame_of serves x chained waiting) ≡ true
-frame_of-sound serves (Err w) chained waiting h = h
-frame_of-sound serves (Ok a) chained waiting h =
-    if-has is_sound_frame (fetches serves a chained) _ _
+frame_of-sound : (x : Result CardApdu ℕ) (chained : Option CardCommand) (waiting : List ℕ)
+    → is_sound_apdu x ≡ true → is_sound_frame (frame_of x chained waiting) ≡ true
+frame_of-sound (Err w) chained waiting h = h
+frame_of-sound (Ok a) chained waiting h =
+    if-has is_sound_frame (fetches a chained) _ _
     (fetched-sound a.command a.most waiting (next_piece-sound waiting a.most h)) (linked-sound a chained h)
 
 frame-sound : (B : Base) (R : Records) (c : ℕ) (bytes : List ℕ) → is_sound_frame (frame B R c bytes) ≡ true
 unfolding frame
-frame-sound B R c bytes = frame_of-sound B.serves (framing bytes) (chain R c) (rest B R c) (framing-sound bytes)
+frame-sound B R c bytes = frame_of-sound (apdu_spelled bytes) (chain R c) (rest B R c) (framing-sound bytes)
 
 -- what an entry's answer gives, at least
 abbrev Gives : Base → Past → CardEntry → ℕ → Type 0
@@ -251,9 +273,9 @@ no-rest_linked a chained = go (goes_on chained a.command) (no-rest_sized a.class
 no-rest_fetched : (k : CardCommand) (most : ℕ) → is_rest (get_response k most []) ≡ false
 no-rest_fetched k most = grind (arith, nat_tests)
 
-no-rest : (serves : List ℕ) (x : Result CardApdu ℕ) (chained : Option CardCommand) → is_rest (frame_of serves x chained []) ≡ false
-no-rest serves (Err w) chained = refl
-no-rest serves (Ok a) chained = go (fetches serves a chained) (no-rest_fetched a.command a.most) (no-rest_linked a chained)
+no-rest : (x : Result CardApdu ℕ) (chained : Option CardCommand) → is_rest (frame_of x chained []) ≡ false
+no-rest (Err w) chained = refl
+no-rest (Ok a) chained = go (fetches a chained) (no-rest_fetched a.command a.most) (no-rest_linked a chained)
   where
     go : (b : Bool) → is_rest (get_response a.command a.most []) ≡ false → is_rest (frame_by (linked chained a) a.most) ≡ false
         → is_rest (if b then get_response a.command a.most [] else frame_by (linked chained a) a.most) ≡ false
@@ -266,9 +288,9 @@ rests-of_frame : (B : Base) (R : Records) (c : ℕ) (bytes piece : List ℕ) (w 
 unfolding frame
 rests-of_frame B R c bytes piece w h runs = may-fetch (fetched B (entries R) c) (go (rest B R c) (waits B R c runs) h)
   where
-    go : (ws : List ℕ) → length ws ≤ left (fetched B (entries R) c) → frame_of B.serves (framing bytes) (chain R c) ws ≡ RestFrame piece w
+    go : (ws : List ℕ) → length ws ≤ left (fetched B (entries R) c) → frame_of (apdu_spelled bytes) (chain R c) ws ≡ RestFrame piece w
         → 1 ≤ left (fetched B (entries R) c)
-    go [] few k = absurd (let p = ap is_rest k in let q = no-rest B.serves (framing bytes) (chain R c) in cc)
+    go [] few k = absurd (let p = ap is_rest k in let q = no-rest (apdu_spelled bytes) (chain R c) in cc)
     go (x ∷ xs) few k = omega (arith, few)
 
 -- an exchange that reaches the card

@@ -3,7 +3,6 @@ pub mod Steps
 pub mod Memories
 pub mod Legality
 pub mod Limits
-pub mod SingleFrames
 pub mod StepLaws
 pub mod Apart
 pub mod Lasting

@@ -11,7 +11,7 @@ use Rattle.piv_model.specs.ApplicationNames.{application_named}
 use Rattle.piv_model.specs.Commands.{CardCommand}
 use Rattle.piv_model.specs.Memory.{reference}
 use Rattle.piv_model.specs.Objects.{place_of}
-use Rattle.piv_model.specs.Base.{Profile, profile, is_served}
+use Rattle.piv_model.specs.Base.{Profile, profile}
 use Rattle.piv_model.specs.StatusWords.{tries_word}
 use Rattle.piv_rules.specs.declared.table.Conditions.{Conditions}
 use Rattle.piv_rules.specs.Forms.{PutForm, DiscoveryForm, ObjectForm, tag_named, put_named, Field, Absent, Empty, Sixteen, field, fields_of, are_fields}
@@ -115,24 +115,23 @@ authenticate-listed m k =
     (auth-listed key (option_and_then fields_of (elements_of k.body))))
 
 -- the first of these instructions that fits
-one-of : (b0 b1 b2 b3 b4 b5 b6 b7 : Bool) (a1 a2 a3 a4 a5 a6 a7 : Ask) → is_listed a1 ≡ true → is_listed a2 ≡ true → is_listed a3 ≡ true
+one-of : (b1 b2 b3 b4 b5 b6 b7 : Bool) (a1 a2 a3 a4 a5 a6 a7 : Ask) → is_listed a1 ≡ true → is_listed a2 ≡ true → is_listed a3 ≡ true
     → is_listed a4 ≡ true → is_listed a5 ≡ true → is_listed a6 ≡ true → is_listed a7 ≡ true
-    → is_listed (if b0 then Refused 0x6D00 else if b1 then a1 else if b2 then a2 else if b3 then a3 else if b4 then a4
+    → is_listed (if b1 then a1 else if b2 then a2 else if b3 then a3 else if b4 then a4
     else if b5 then a5 else if b6 then a6 else if b7 then a7 else Refused 0x6D00) ≡ true
-one-of true b1 b2 b3 b4 b5 b6 b7 a1 a2 a3 a4 a5 a6 a7 h1 h2 h3 h4 h5 h6 h7 = refl
-one-of false true b2 b3 b4 b5 b6 b7 a1 a2 a3 a4 a5 a6 a7 h1 h2 h3 h4 h5 h6 h7 = h1
-one-of false false true b3 b4 b5 b6 b7 a1 a2 a3 a4 a5 a6 a7 h1 h2 h3 h4 h5 h6 h7 = h2
-one-of false false false true b4 b5 b6 b7 a1 a2 a3 a4 a5 a6 a7 h1 h2 h3 h4 h5 h6 h7 = h3
-one-of false false false false true b5 b6 b7 a1 a2 a3 a4 a5 a6 a7 h1 h2 h3 h4 h5 h6 h7 = h4
-one-of false false false false false true b6 b7 a1 a2 a3 a4 a5 a6 a7 h1 h2 h3 h4 h5 h6 h7 = h5
-one-of false false false false false false true b7 a1 a2 a3 a4 a5 a6 a7 h1 h2 h3 h4 h5 h6 h7 = h6
-one-of false false false false false false false true a1 a2 a3 a4 a5 a6 a7 h1 h2 h3 h4 h5 h6 h7 = h7
-one-of false false false false false false false false a1 a2 a3 a4 a5 a6 a7 h1 h2 h3 h4 h5 h6 h7 = refl
+one-of true b2 b3 b4 b5 b6 b7 a1 a2 a3 a4 a5 a6 a7 h1 h2 h3 h4 h5 h6 h7 = h1
+one-of false true b3 b4 b5 b6 b7 a1 a2 a3 a4 a5 a6 a7 h1 h2 h3 h4 h5 h6 h7 = h2
+one-of false false true b4 b5 b6 b7 a1 a2 a3 a4 a5 a6 a7 h1 h2 h3 h4 h5 h6 h7 = h3
+one-of false false false true b5 b6 b7 a1 a2 a3 a4 a5 a6 a7 h1 h2 h3 h4 h5 h6 h7 = h4
+one-of false false false false true b6 b7 a1 a2 a3 a4 a5 a6 a7 h1 h2 h3 h4 h5 h6 h7 = h5
+one-of false false false false false true b7 a1 a2 a3 a4 a5 a6 a7 h1 h2 h3 h4 h5 h6 h7 = h6
+one-of false false false false false false true a1 a2 a3 a4 a5 a6 a7 h1 h2 h3 h4 h5 h6 h7 = h7
+one-of false false false false false false false a1 a2 a3 a4 a5 a6 a7 h1 h2 h3 h4 h5 h6 h7 = refl
 
 ask-listed : (m : Profile) (k : CardCommand) → is_listed (ask m k) ≡ true
 unfolding ask
 ask-listed m k =
-    one-of (not (is_served m.serves k.ins)) (k.ins == 0xA4) (k.ins == 0xCB) (k.ins == 0xDB) (k.ins == 0x20) (k.ins == 0x24)
+    one-of (k.ins == 0xA4) (k.ins == 0xCB) (k.ins == 0xDB) (k.ins == 0x20) (k.ins == 0x24)
     (k.ins == 0x2C) (k.ins == 0x87) (select_ask k) (get_ask k) (put_ask m k) (verify_ask m k) (change_ask m k) (unblock_ask k)
     (authenticate_ask m k) (select-listed k) (get-listed k) (put-listed m k) (verify-listed m k) (change-listed m k)
     (unblock-listed k) (authenticate-listed m k)

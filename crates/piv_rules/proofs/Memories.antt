@@ -118,7 +118,7 @@ pub mem-step : (B : Base) (H : Past) (e : CardEntry) → mem B (e ∷ H) ≡ mem
 mem-step B H e = mem_by-did B H e ∙ mem_by-memory_by B H (did H e)
 
 -- no command changes what another one's meaning depends on
-pub profile_of-mem : (B : Base) (H : Past) → profile_of B.serves (mem B H) ≡ profile B
+pub profile_of-mem : (B : Base) (H : Past) → profile_of (mem B H) ≡ profile B
 unfolding mem
 profile_of-mem B H = go B.memory.global
   where

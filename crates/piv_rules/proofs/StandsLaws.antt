@@ -6,7 +6,7 @@ use Rattle.piv_model.specs.declared.kinds.Interface.{Interface}
 use Rattle.piv_model.specs.declared.kinds.Took.TheVariants.{Nothing}
 use Rattle.piv_model.specs.declared.history.Refusal.{Refusal}
 use Rattle.piv_model.specs.Commands.{CardCommand}
-use Rattle.piv_model.specs.Framing.{framing}
+use Rattle.piv_model.specs.ApduForms.{apdu_spelled}
 use Rattle.piv_model.specs.Memory.{Memory}
 use Rattle.piv_model.specs.Entries.{CardEntry, Past, Opened, Closed, Call, Part, Rest, Bad, Reset, Cut, Up, Note}
 use Rattle.piv_model.specs.Base.{Base, profile}
@@ -271,7 +271,7 @@ turned-exchange B R card attached c known bytes x f e told stands is_on is new f
     let sided : side H c ≡ x.side = ap (λ (y : Attached). y.side) at.1 in
     let late : nat_lt known (epoch H (side H c)) ≡ false = rw sided (grind (arith, nat_tests)) in
     let none : refused H (Exchange c known bytes) ≡ None = rw (at.0, power, late) refl in
-    let same : frame B R c bytes ≡ f = ap (λ (y : Attached). frame_of B.serves (framing bytes) y.chain y.rest) at.1 ∙ framed in
+    let same : frame B R c bytes ≡ f = ap (λ (y : Attached). frame_of (apdu_spelled bytes) y.chain y.rest) at.1 ∙ framed in
     let P : Option Refusal → Type 0 = λ (o : Option Refusal). IsTurnedBy o B R (Exchange c known bytes) e told in
     let Q : Frame → Type 0 = λ (g : Frame). IsExchanged B H c g e told in
     subst P (sym none) (subst Q (sym same) made)

@@ -9,7 +9,7 @@ use Rattle.piv_model.specs.declared.kinds.KeyId.{KeyId}
 use Rattle.piv_model.specs.declared.kinds.KeyId.TheVariants.{AdminKey, CardAuth}
 use Rattle.piv_model.specs.Commands.{CardCommand}
 use Rattle.piv_model.specs.Objects.{discovery_place, place_of}
-use Rattle.piv_model.specs.Base.{Profile, is_served}
+use Rattle.piv_model.specs.Base.{Profile}
 use Rattle.piv_model.specs.ApplicationNames.{application_named}
 use Rattle.piv_model.specs.Forms.{is_pin, is_pair, is_puk_and_pin}
 use Rattle.piv_rules.specs.Forms.{tag_named, PutForm, DiscoveryForm, ObjectForm, put_named, Field, Absent, Empty, Sixteen, field, are_fields, fields_of}
@@ -153,8 +153,7 @@ authenticate_ask m k =
 -- what a command asks
 unfoldable pub ask : Profile → CardCommand → Ask
 ask m k =
-    if not (is_served m.serves k.ins) then Refused 0x6D00
-    else if k.ins == 0xA4 then select_ask k
+    if k.ins == 0xA4 then select_ask k
     else if k.ins == 0xCB then get_ask k
     else if k.ins == 0xDB then put_ask m k
     else if k.ins == 0x20 then verify_ask m k

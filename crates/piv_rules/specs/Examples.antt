@@ -18,12 +18,8 @@ use Rattle.piv_rules.specs.Frames.{BadFrame, PartFrame, RestFrame, WholeFrame, f
 use Rattle.piv_rules.specs.Turns.{called, cut_reply}
 use Rattle.piv_rules.specs.Plans.{made, ArePlanned}
 
--- the plain card where every instruction is served
-abbrev pub all_served : List ℕ
-all_served = 0xA4 ∷ 0xCB ∷ 0xDB ∷ 0x20 ∷ 0x24 ∷ 0x2C ∷ 0x87 ∷ 0xC0 ∷ []
-
 abbrev pub plain : Base
-plain = plain_base all_served
+plain = plain_base
 
 -- the history after these commands on connection 1, and their answers
 abbrev pub start : Past
@@ -210,23 +206,23 @@ verify_part p2 body = record { ins = 0x20; p1 = 0x00; p2 = p2; body = body }
 -- a VERIFY in two parts: the first adds to the chain, the second ends it, and the joined command logs in
 abbrev pub PartsJoin : Type 0
 PartsJoin =
-    (frame_of all_served (apdu 0x10 (verify_part 0x80 (0x31 ∷ 0x32 ∷ 0x33 ∷ 0x34 ∷ [])) 256) None [] ≡ PartFrame)
-    × (frame_of all_served (apdu 0x00 (verify_part 0x80 (0x35 ∷ 0x36 ∷ 0xFF ∷ 0xFF ∷ [])) 256)
+    (frame_of (apdu 0x10 (verify_part 0x80 (0x31 ∷ 0x32 ∷ 0x33 ∷ 0x34 ∷ [])) 256) None [] ≡ PartFrame)
+    × (frame_of (apdu 0x00 (verify_part 0x80 (0x35 ∷ 0x36 ∷ 0xFF ∷ 0xFF ∷ [])) 256)
     (Some (verify_part 0x80 (0x31 ∷ 0x32 ∷ 0x33 ∷ 0x34 ∷ []))) [] ≡ WholeFrame (verify plain_pin) 256)
     × (words plain (after plain start (select full_aid ∷ []) ▸ Part 1) (verify plain_pin ∷ query ∷ []) ≡ 0x9000 ∷ 0x9000 ∷ [])
 
 -- a part with another header is refused, and no try is spent
 abbrev pub OtherHeadersAreRefused : Type 0
 OtherHeadersAreRefused =
-    (frame_of all_served (apdu 0x00 (verify_part 0x81 (0x35 ∷ 0x36 ∷ 0xFF ∷ 0xFF ∷ [])) 256)
+    (frame_of (apdu 0x00 (verify_part 0x81 (0x35 ∷ 0x36 ∷ 0xFF ∷ 0xFF ∷ [])) 256)
     (Some (verify_part 0x80 (0x31 ∷ 0x32 ∷ 0x33 ∷ 0x34 ∷ []))) [] ≡ BadFrame 0x6883)
     × (words plain (after plain start (select full_aid ∷ []) ▸ Part 1 ▸ Bad 1 0x6883) (query ∷ []) ≡ 0x63C3 ∷ [])
 
 abbrev pub get_response_apdu : Result CardApdu ℕ
 get_response_apdu = apdu 0x00 (record { ins = 0xC0; p1 = 0x00; p2 = 0x00; body = [] }) 256
 
--- the records of a connection on which PIV was selected and the CHUID read with Le 04, and then a piece. The bytes of
--- the exchanges are left out: framing reads no such Le yet.
+-- the records of a connection on which PIV was selected and the CHUID read with Le 04, and then a piece. What waits is
+-- told by the entries and the answers, so the bytes of the exchanges are left out.
 abbrev pub chuid_record : CardRecord
 chuid_record = record {
   act = Exchange 1 0 [];
@@ -254,8 +250,8 @@ chuid_given = chuid_record ∷ select_record ∷ open_record ∷ []
 abbrev pub PiecesEnd : Type 0
 PiecesEnd =
     (chuid_record.answer ≡ Replied (0x53 ∷ 0x04 ∷ 0x3E ∷ 0x00 ∷ []) 0x6102)
-    × (frame_of all_served get_response_apdu None (rest plain chuid_given 1) ≡ RestFrame (0xFE ∷ 0x00 ∷ []) 0x9000)
-    × (frame_of all_served get_response_apdu None (rest plain (chuid_given ▸ rest_record) 1) ≡ BadFrame 0x6985)
+    × (frame_of get_response_apdu None (rest plain chuid_given 1) ≡ RestFrame (0xFE ∷ 0x00 ∷ []) 0x9000)
+    × (frame_of get_response_apdu None (rest plain (chuid_given ▸ rest_record) 1) ≡ BadFrame 0x6985)
     × (fetched plain (after plain start (select full_aid ∷ get_chuid ∷ []) ▸ Rest 1) 1 ≡ Some (record { size = 6; rests = 1 }))
 
 -- ---- losses of power

@@ -6,11 +6,11 @@ use Rattle.piv_rules.specs.Frames.{frame_of, frame_by, fetches, is_get_response,
 
 -- all but GET RESPONSE outside a chain joins the chain, or is whole
 abbrev pub CommandsAreLinked : Type 0
-CommandsAreLinked = (serves : List ℕ) (a : CardApdu) (chained : Option CardCommand) (waiting : List ℕ)
-    → fetches serves a chained ≡ false
-    → frame_of serves (Ok a) chained waiting ≡ frame_by (linked chained a) a.most
+CommandsAreLinked = (a : CardApdu) (chained : Option CardCommand) (waiting : List ℕ)
+    → fetches a chained ≡ false
+    → frame_of (Ok a) chained waiting ≡ frame_by (linked chained a) a.most
 
 -- GET RESPONSE outside a chain takes a piece
 abbrev pub PiecesAreFetched : Type 0
-PiecesAreFetched = (serves : List ℕ) (a : CardApdu) (waiting : List ℕ) → is_get_response serves a ≡ true
-    → frame_of serves (Ok a) None waiting ≡ get_response a.command a.most waiting
+PiecesAreFetched = (a : CardApdu) (waiting : List ℕ) → is_get_response a ≡ true
+    → frame_of (Ok a) None waiting ≡ get_response a.command a.most waiting

@@ -2,11 +2,11 @@
 -- replies (ISO/IEC 7816-4, command chaining and GET RESPONSE; SP 800-73-4 part 2).
 use Rattle.std.specs.Prelude.{ℕ, ◌-◌, Bool, not, ◌&&◌, ◌==◌, List, [], ◌∷◌, ◌++◌, length, take, drop, flat_map, Option, Some, None, is_none, Result, Ok, Err, if◌then◌else◌}
 use Rattle.piv_model.specs.Commands.{CardCommand, CardApdu}
-use Rattle.piv_model.specs.Framing.{framing}
+use Rattle.piv_model.specs.ApduForms.{apdu_spelled}
 use Rattle.piv_model.specs.StatusWords.{piece_word}
 use Rattle.piv_model.specs.Chains.{Link, PartOf, WholeOf, RefusedBy, linked}
 use Rattle.piv_model.specs.Entries.{CardEntry, Past, Call, Part, Rest}
-use Rattle.piv_model.specs.Base.{Base, is_served}
+use Rattle.piv_model.specs.Base.{Base}
 use Rattle.piv_rules.specs.StatusWords.{is_granted}
 use Rattle.piv_rules.specs.Connections.{by_exchange}
 use Rattle.piv_rules.specs.Answers.{answer}
@@ -18,7 +18,7 @@ command_read (Err w) = []
 command_read (Ok a) = a.command ∷ []
 
 abbrev pub commands_of : CardAct → List CardCommand
-commands_of (Exchange c known bytes) = command_read (framing bytes)
+commands_of (Exchange c known bytes) = command_read (apdu_spelled bytes)
 commands_of _ = []
 
 -- the commands of the Parts in which what c exchanged after its last break ends, the first of them first
@@ -73,8 +73,8 @@ get_response k most waiting =
     else if not ((k.p1 == 0) && (k.p2 == 0)) then BadFrame 0x6A86
     else next_piece waiting most
 
-abbrev pub is_get_response : List ℕ → CardApdu → Bool
-is_get_response serves a = (a.class == 0x00) && (a.command.ins == 0xC0) && is_served serves 0xC0
+abbrev pub is_get_response : CardApdu → Bool
+is_get_response a = (a.class == 0x00) && (a.command.ins == 0xC0)
 
 -- what an APDU makes of the chain, as a frame
 abbrev pub frame_by : Link → ℕ → Frame
@@ -83,14 +83,14 @@ frame_by (WholeOf k) most = WholeFrame k most
 frame_by (RefusedBy w) most = BadFrame w
 
 -- GET RESPONSE in the midst of a chain is no part of it
-abbrev pub fetches : List ℕ → CardApdu → Option CardCommand → Bool
-fetches serves a chained = is_none chained && is_get_response serves a
+abbrev pub fetches : CardApdu → Option CardCommand → Bool
+fetches a chained = is_none chained && is_get_response a
 
-abbrev pub frame_of : List ℕ → Result CardApdu ℕ → Option CardCommand → List ℕ → Frame
-frame_of serves (Err w) chained waiting = BadFrame w
-frame_of serves (Ok a) chained waiting =
-    if fetches serves a chained then get_response a.command a.most waiting
+abbrev pub frame_of : Result CardApdu ℕ → Option CardCommand → List ℕ → Frame
+frame_of (Err w) chained waiting = BadFrame w
+frame_of (Ok a) chained waiting =
+    if fetches a chained then get_response a.command a.most waiting
     else frame_by (linked chained a) a.most
 
 unfoldable pub frame : Base → Records → ℕ → List ℕ → Frame
-frame B R c bytes = frame_of B.serves (framing bytes) (chain R c) (rest B R c)
+frame B R c bytes = frame_of (apdu_spelled bytes) (chain R c) (rest B R c)

@@ -6,20 +6,21 @@ use Rattle.piv_model.specs.Entries.{Past, entry_of}
 use Rattle.piv_model.specs.Memory.{Reference, reference, blocks}
 use Rattle.piv_rules.specs.declared.asked.Asked.{Asked}
 use Rattle.piv_rules.specs.declared.asked.Asked.TheVariants as asked
-use Rattle.piv_rules.specs.declared.asked.Aim.{Aim}
-use Rattle.piv_rules.specs.declared.asked.Aim.TheVariants as aim
+use Rattle.piv_rules.specs.declared.asked.Purpose.{Purpose}
+use Rattle.piv_rules.specs.declared.asked.Purpose.TheVariants as purpose
 use Rattle.piv_rules.specs.declared.seen.Counter.{Counter}
 use Rattle.piv_rules.specs.declared.seen.Seen.{Seen}
 use Rattle.piv_rules.specs.declared.lookback.Pending as lookback
 use Rattle.piv_rules.specs.declared.lookback.Pending.TheVariants as lent
-use Rattle.piv_rules.specs.Asks.{Ask, Refused, Select, Get, Put, Logout, Query, Compare, Internal, AskChallenge, External, AskWitness, Mutual, Purpose, Verify, Change, Unblock}
+use Rattle.piv_rules.specs.Asks.{Ask, Refused, Select, Get, Put, Logout, Query, Compare, Internal, AskChallenge, External, AskWitness, Mutual}
+use Rattle.piv_rules.specs.Asks as asks
 use Rattle.piv_rules.specs.Logins.{Pending, NonePending, Challenge, Witness}
 use Rattle.piv_rules.specs.Answers.{Situation, global_counts}
 
-abbrev pub purpose_of : Aim → Purpose
-purpose_of aim.Verify = Verify
-purpose_of (aim.Change n) = Change n.now
-purpose_of (aim.Unblock n) = Unblock n.now
+abbrev pub purpose_of : Purpose → asks.Purpose
+purpose_of purpose.Verify = asks.Verify
+purpose_of (purpose.Change n) = asks.Change n
+purpose_of (purpose.Unblock n) = asks.Unblock n
 
 abbrev pub ask_of : Asked → Ask
 ask_of (asked.Refused w) = Refused w
@@ -28,12 +29,12 @@ ask_of (asked.Get id) = Get id
 ask_of (asked.Put id v) = Put id v.now
 ask_of (asked.Logout r) = Logout r
 ask_of (asked.Query r) = Query r
-ask_of (asked.Compare r p a) = Compare r p.now (purpose_of a)
-ask_of (asked.Internal x) = Internal x.now
+ask_of (asked.Compare r p a) = Compare r p (purpose_of a)
+ask_of (asked.Internal x) = Internal x
 ask_of asked.AskChallenge = AskChallenge
-ask_of (asked.External x) = External x.now
+ask_of (asked.External x) = External x
 ask_of asked.AskWitness = AskWitness
-ask_of (asked.Mutual w x) = Mutual w.now x.now
+ask_of (asked.Mutual w x) = Mutual w x
 
 -- lent entries, the newest first, as a history
 abbrev pub past_of : List Entry → Past

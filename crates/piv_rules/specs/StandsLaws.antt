@@ -4,7 +4,7 @@ use Rattle.piv_model.specs.declared.kinds.Interface.{Interface}
 use Rattle.piv_model.specs.declared.kinds.Took.TheVariants.{Nothing}
 use Rattle.piv_model.specs.declared.history.Refusal.{Refusal}
 use Rattle.piv_model.specs.Commands.{CardCommand}
-use Rattle.piv_model.specs.Framing.{framing}
+use Rattle.piv_model.specs.ApduForms.{apdu_spelled}
 use Rattle.piv_model.specs.Entries.{CardEntry, ◌▸◌, Opened, Closed, Reset, Cut, Up, Note}
 use Rattle.piv_model.specs.Base.{Base}
 use Rattle.piv_rules.specs.Connections.{is_open, epoch, is_exchange_on}
@@ -70,7 +70,7 @@ abbrev pub ExchangesAreTurned : Type 0
 ExchangesAreTurned = (B : Base) (R : Records) (card : CardState) (attached : ℕ → Option Attached) (c known : ℕ) (bytes : List ℕ)
     (x : Attached) (f : Frame) (e : CardEntry) (told : CardAnswer)
     → StandsFor B R card attached → card.on ≡ true → attached c ≡ Some x → epoch (entries R) x.side ≤ known
-    → frame_of B.serves (framing bytes) x.chain x.rest ≡ f → IsExchanged B (entries R) c f e told
+    → frame_of (apdu_spelled bytes) x.chain x.rest ≡ f → IsExchanged B (entries R) c f e told
     → IsTurned B R (record { act = Exchange c known bytes; entry = e; answer = told })
 
 -- an exchange that lost no power: the connection is y afterwards

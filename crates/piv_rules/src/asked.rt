@@ -1,16 +1,16 @@
-// What a command asks, with its data lent from the command.
+// What a command asks. A value to be put is lent from the command.
 
-use piv_model::{Application, RefId};
+use piv_model::{Application, ObjectId, RefId};
 
 /// What a comparison is for.
 #[derive(Clone, Copy, Debug)]
-pub enum Aim<'a> {
+pub enum Purpose {
     /// VERIFY.
     Verify,
     /// CHANGE REFERENCE DATA with the new value.
-    Change(&'a [u8]),
+    Change([u8; 8]),
     /// RESET RETRY COUNTER with the new PIN.
-    Unblock(&'a [u8]),
+    Unblock([u8; 8]),
 }
 
 /// What a command asks (SP 800-73-4 part 2).
@@ -19,15 +19,15 @@ pub enum Asked<'a> {
     /// Nothing that can be granted: the status word.
     Refused(u16),
     Select(Application),
-    Get(u8),
-    Put(u8, &'a [u8]),
+    Get(ObjectId),
+    Put(ObjectId, &'a [u8]),
     Logout(RefId),
     Query(RefId),
-    Compare(RefId, &'a [u8], Aim<'a>),
-    Internal(&'a [u8]),
+    Compare(RefId, [u8; 8], Purpose),
+    Internal([u8; 16]),
     AskChallenge,
-    External(&'a [u8]),
+    External([u8; 16]),
     AskWitness,
     /// The Witness, and the challenge to be enciphered.
-    Mutual(&'a [u8], &'a [u8]),
+    Mutual([u8; 16], [u8; 16]),
 }

@@ -9,7 +9,7 @@ ghost use Rattle.piv_rules.specs.Effects.{took_by};
 ghost use Rattle.piv_rules.specs.Memories.{running, did, filled_by, spent_by, tries};
 ghost use Rattle.piv_rules.specs.Lent.{ask_of, past_of};
 
-use crate::asked::{Aim, Asked};
+use crate::asked::{Asked, Purpose};
 use crate::lookback::Asks;
 use piv_model::{Command, Entry, RefId, Took};
 
@@ -53,23 +53,23 @@ fn did_by<'a>(entry: &Entry<'a>, before: &[Entry<'a>]) -> Option<(Command<'a>, T
 }
 
 // The counter of a reference is filled.
-fn fills(r: RefId, asked: Asked<'_>, took: Took) -> bool
-    ensures { result ≡ filled_by r (ask_of asked.entry) took }
+fn fills(r: RefId, asked: &Asked<'_>, took: Took) -> bool
+    ensures { result ≡ filled_by r (ask_of asked.now) took }
 {
-    match (asked, took) {
-        (Asked::Compare(compared, _, aim), Took::Done) => {
-            r == compared || (matches!(aim, Aim::Unblock(_)) && r == RefId::Pin)
+    match asked {
+        Asked::Compare(compared, _, purpose) if took == Took::Done => {
+            r == *compared || (matches!(purpose, Purpose::Unblock(_)) && r == RefId::Pin)
         }
         _ => false,
     }
 }
 
 // A try of a reference is spent.
-fn spends(r: RefId, asked: Asked<'_>, took: Took) -> bool
-    ensures { result ≡ spent_by r (ask_of asked.entry) took }
+fn spends(r: RefId, asked: &Asked<'_>, took: Took) -> bool
+    ensures { result ≡ spent_by r (ask_of asked.now) took }
 {
-    match (asked, took) {
-        (Asked::Compare(compared, _, _), Took::Spent) => r == compared,
+    match asked {
+        Asked::Compare(compared, _, _) if took == Took::Spent => r == *compared,
         _ => false,
     }
 }
@@ -89,9 +89,9 @@ pub fn tries_left<A: Asks>(asks: &A, entries: &[Entry<'_>], r: RefId, limit: u8,
                 None => left,
                 Some((command, took)) => {
                     let asked = asks.asked(command);
-                    if fills(r, asked, took) {
+                    if fills(r, &asked, took) {
                         limit
-                    } else if spends(r, asked, took) {
+                    } else if spends(r, &asked, took) {
                         left.saturating_sub(1)
                     } else {
                         left

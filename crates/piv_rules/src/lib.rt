@@ -9,7 +9,7 @@ mod lookback;
 mod seen;
 mod table;
 
-pub use asked::{Aim, Asked};
+pub use asked::{Asked, Purpose};
 pub use counters::{running_at, tries_left};
 pub use examples::{
     answers_on_the_plain_card, connections_on_the_plain_card, losses_on_the_plain_card,

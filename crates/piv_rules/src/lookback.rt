@@ -9,7 +9,7 @@ ghost use Rattle.piv_rules.specs.Connections.{side, breaks, by_call};
 ghost use Rattle.piv_rules.specs.Logins.{compared, ends_if, pin_after, global_after, admin_after, in_force, login_after, pending, pending_by};
 ghost use Rattle.piv_rules.specs.Lent.{ask_of, past_of, pending_of};
 
-use crate::asked::{Aim, Asked};
+use crate::asked::{Asked, Purpose};
 use piv_model::{Application, Command, Entry, Interface, RefId};
 
 /// A login of a connection: by the PIN, by the Global PIN, by the administration key.
@@ -85,30 +85,30 @@ fn ends_if(ends: bool) -> Option<bool>
     if ends { Some(false) } else { None }
 }
 
-fn pin_said(asked: Asked<'_>, sw: u16) -> Option<bool>
-    ensures { (block : Option (List ℕ)) → result ≡ pin_after (ask_of asked.entry) sw block }
+fn pin_said(asked: &Asked<'_>, sw: u16) -> Option<bool>
+    ensures { (block : Option (List ℕ)) → result ≡ pin_after (ask_of asked.now) sw block }
 {
     match asked {
-        Asked::Compare(RefId::Pin, _, Aim::Verify | Aim::Change(_)) => compared(sw),
-        Asked::Compare(RefId::Puk, _, Aim::Unblock(_)) => ends_if(0x63C0 <= sw && sw <= 0x63CF),
+        Asked::Compare(RefId::Pin, _, Purpose::Verify | Purpose::Change(_)) => compared(sw),
+        Asked::Compare(RefId::Puk, _, Purpose::Unblock(_)) => ends_if(0x63C0 <= sw && sw <= 0x63CF),
         Asked::Logout(RefId::Pin) => ends_if(sw == 0x9000),
         Asked::Select(Application::Idle) => ends_if(sw == 0x9000),
         _ => None,
     }
 }
 
-fn global_said(asked: Asked<'_>, sw: u16) -> Option<bool>
-    ensures { (block : Option (List ℕ)) → result ≡ global_after (ask_of asked.entry) sw block }
+fn global_said(asked: &Asked<'_>, sw: u16) -> Option<bool>
+    ensures { (block : Option (List ℕ)) → result ≡ global_after (ask_of asked.now) sw block }
 {
     match asked {
-        Asked::Compare(RefId::GlobalPin, _, Aim::Verify | Aim::Change(_)) => compared(sw),
+        Asked::Compare(RefId::GlobalPin, _, Purpose::Verify | Purpose::Change(_)) => compared(sw),
         Asked::Logout(RefId::GlobalPin) => ends_if(sw == 0x9000),
         _ => None,
     }
 }
 
-fn admin_said(asked: Asked<'_>, sw: u16, block: Option<[u8; 16]>) -> Option<bool>
-    ensures { result ≡ admin_after (ask_of asked.entry) sw block }
+fn admin_said(asked: &Asked<'_>, sw: u16, block: Option<[u8; 16]>) -> Option<bool>
+    ensures { result ≡ admin_after (ask_of asked.now) sw block }
 {
     match asked {
         Asked::External(_) | Asked::Mutual(_, _) => {
@@ -135,9 +135,9 @@ fn said<A: Asks>(asks: &A, entry: &Entry<'_>, c: u32, login: Login) -> Option<bo
             sw,
             block,
         } if *called == c => match login {
-            Login::Pin => pin_said(asks.asked(*command), *sw),
-            Login::Global => global_said(asks.asked(*command), *sw),
-            Login::Admin => admin_said(asks.asked(*command), *sw, *block),
+            Login::Pin => pin_said(&asks.asked(*command), *sw),
+            Login::Global => global_said(&asks.asked(*command), *sw),
+            Login::Admin => admin_said(&asks.asked(*command), *sw, *block),
         },
         _ => None,
     }
@@ -163,12 +163,15 @@ pub fn is_in_force<A: Asks>(asks: &A, entries: &[Entry<'_>], c: u32, login: Logi
 }
 
 // The block that a call leaves to be answered.
-fn drawn(asked: Asked<'_>, block: Option<[u8; 16]>) -> Pending
-    ensures { pending_of result ≡ pending_by (ask_of asked.entry) block }
+fn drawn(asked: &Asked<'_>, block: Option<[u8; 16]>) -> Pending
+    ensures { pending_of result ≡ pending_by (ask_of asked.now) block }
 {
-    match (asked, block) {
-        (Asked::AskChallenge, Some(block)) => Pending::Challenge(block),
-        (Asked::AskWitness, Some(block)) => Pending::Witness(block),
+    let Some(block) = block else {
+        return Pending::None;
+    };
+    match asked {
+        Asked::AskChallenge => Pending::Challenge(block),
+        Asked::AskWitness => Pending::Witness(block),
         _ => Pending::None,
     }
 }
@@ -190,7 +193,7 @@ pub fn pending_on<A: Asks>(asks: &A, entries: &[Entry<'_>], c: u32) -> Pending
                     command,
                     block,
                     ..
-                } if *called == c => drawn(asks.asked(*command), *block),
+                } if *called == c => drawn(&asks.asked(*command), *block),
                 _ => pending_on(asks, before, c),
             }
         }

@@ -1,5 +1,5 @@
 // A situation as a plain program is given it, and the conditions of the table's lines in it.
-ghost use Rattle.std.specs.Prelude.{◌≡◌, ◌≤◌, length};
+ghost use Rattle.std.specs.Prelude.{◌≡◌, ◌≤◌, length, None, false};
 ghost use Rattle.piv_model.specs.Memory.{fits, reference, stored};
 ghost use Rattle.piv_rules.specs.Answers.{Situation, holds, rule_of, status, is_wrong, conditions, answer_to};
 ghost use Rattle.piv_rules.specs.Lent.{ask_of, counter_of, AreFew, IsSeen};
@@ -7,7 +7,8 @@ ghost use Rattle.piv_rules.specs.Lent.{ask_of, counter_of, AreFew, IsSeen};
 use crate::asked::Asked;
 use crate::lookback::Pending;
 use crate::table::{Conditions, word_of};
-use piv_model::{Interface, RefId, Rule};
+use piv_model::limits::{BLOCK, LONGEST_OBJECT};
+use piv_model::{Interface, ObjectId, RefId, Rule};
 
 /// A reference's tries and its secret.
 #[derive(Clone, Copy, Debug)]
@@ -68,10 +69,10 @@ fn counter_at<'a>(seen: &Seen<'a>, r: RefId) -> Counter<'a>
 }
 
 // The number of bytes of an object.
-fn stored_length(seen: &Seen<'_>, id: u8) -> usize
+fn stored_length(seen: &Seen<'_>, id: ObjectId) -> usize
     ensures { (s : Situation) → IsSeen seen.now s → result ≡ length (stored s.memory id) }
 {
-    match seen.objects.get(id as usize) {
+    match seen.objects.get(id.place() as usize) {
         Some(object) => object.len(),
         None => 0,
     }
@@ -82,27 +83,33 @@ fn stored_length(seen: &Seen<'_>, id: u8) -> usize
 fn has_room(seen: &Seen<'_>, value: &[u8]) -> bool
     ensures { (s : Situation) → IsSeen seen.now s → result ≡ fits s.memory value.now }
 {
-    if value.len() > 16384 {
+    if value.len() > LONGEST_OBJECT {
         return false;
     }
-    let blocks = (value.len() as u64).div_ceil(64);
+    let blocks = (value.len() as u64).div_ceil(BLOCK as u64);
     seen.used <= seen.budget && blocks <= seen.budget - seen.used
 }
 
-/// The conditions of the table's lines for an ask whose access rule is `rule`. Whether the ask is a
-/// wrong response to what is pending is told, since the cipher isn't here.
-pub fn conditions_of(seen: &Seen<'_>, asked: Asked<'_>, rule: Rule, wrong: bool) -> Conditions
-    requires { AreFew seen.now }
-    ensures few { result.tries ≤ 15 }
-    ensures lines { (s : Situation) → IsSeen seen.now s
-        → rule ≡ rule_of s.interface (ask_of asked.entry)
-        → wrong ≡ is_wrong s.memory.admin s.channel.pending (ask_of asked.entry)
-        → result ≡ conditions s (ask_of asked.entry) }
+// The conditions of a command that has none of its own.
+fn common(piv: bool, permitted: bool, wrong: bool) -> Conditions
+    ensures { result ≡ record {
+      piv = piv;
+      refusal = None;
+      permitted = permitted;
+      lacks_pending = false;
+      wrong = wrong;
+      blocked = false;
+      differs = false;
+      unknown_login = false;
+      absent = false;
+      no_room = false;
+      tries = 0;
+    } }
 {
-    let conditions = Conditions {
-        piv: seen.piv,
+    Conditions {
+        piv,
         refusal: None,
-        permitted: permits(seen, rule),
+        permitted,
         lacks_pending: false,
         wrong,
         blocked: false,
@@ -111,24 +118,37 @@ pub fn conditions_of(seen: &Seen<'_>, asked: Asked<'_>, rule: Rule, wrong: bool)
         absent: false,
         no_room: false,
         tries: 0,
-    };
+    }
+}
+
+/// The conditions of the table's lines for an ask whose access rule is `rule`. Whether the ask is a
+/// wrong response to what is pending is told, since the cipher isn't here.
+pub fn conditions_of(seen: &Seen<'_>, asked: &Asked<'_>, rule: Rule, wrong: bool) -> Conditions
+    requires { AreFew seen.now }
+    ensures few { result.tries ≤ 15 }
+    ensures lines { (s : Situation) → IsSeen seen.now s
+        → rule ≡ rule_of s.interface (ask_of asked.now)
+        → wrong ≡ is_wrong s.memory.admin s.channel.pending (ask_of asked.now)
+        → result ≡ conditions s (ask_of asked.now) }
+{
+    let conditions = common(seen.piv, permits(seen, rule), wrong);
     match asked {
         Asked::Refused(word) => Conditions {
-            refusal: Some(word),
+            refusal: Some(*word),
             ..conditions
         },
         Asked::Compare(r, candidate, _) => {
-            let counter = counter_at(seen, r);
+            let counter = counter_at(seen, *r);
             Conditions {
                 blocked: counter.tries == 0,
-                differs: candidate != counter.secret,
+                differs: candidate.as_slice() != counter.secret,
                 tries: counter.tries,
                 ..conditions
             }
         }
         Asked::Query(r) => Conditions {
-            unknown_login: !is_logged_in(seen, r),
-            tries: counter_at(seen, r).tries,
+            unknown_login: !is_logged_in(seen, *r),
+            tries: counter_at(seen, *r).tries,
             ..conditions
         },
         Asked::External(_) => Conditions {
@@ -140,7 +160,7 @@ pub fn conditions_of(seen: &Seen<'_>, asked: Asked<'_>, rule: Rule, wrong: bool)
             ..conditions
         },
         Asked::Get(id) => Conditions {
-            absent: stored_length(seen, id) == 0,
+            absent: stored_length(seen, *id) == 0,
             ..conditions
         },
         Asked::Put(_, value) => Conditions {
@@ -168,12 +188,12 @@ fn is_logged_in(seen: &Seen<'_>, r: RefId) -> bool
 
 /// The status word of an ask in a situation, SELECT apart: the first line of the table that fits.
 #[tactic(auto, using(crate::proofs::TableLaws::table_words))]
-pub fn answer_word(seen: &Seen<'_>, asked: Asked<'_>, rule: Rule, wrong: bool) -> u16
+pub fn answer_word(seen: &Seen<'_>, asked: &Asked<'_>, rule: Rule, wrong: bool) -> u16
     requires { AreFew seen.now }
     ensures { (s : Situation) → IsSeen seen.now s
-        → rule ≡ rule_of s.interface (ask_of asked.entry)
-        → wrong ≡ is_wrong s.memory.admin s.channel.pending (ask_of asked.entry)
-        → result ≡ (answer_to s (ask_of asked.entry)).word }
+        → rule ≡ rule_of s.interface (ask_of asked.now)
+        → wrong ≡ is_wrong s.memory.admin s.channel.pending (ask_of asked.now)
+        → result ≡ (answer_to s (ask_of asked.now)).word }
 {
     word_of(&conditions_of(seen, asked, rule, wrong))
 }

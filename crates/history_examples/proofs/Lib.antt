@@ -1,0 +1,5 @@
+pub mod LimitRows
+pub mod RefusalRows
+pub mod PolicyRows
+pub mod BlockRows
+pub mod ActRows

@@ -1,0 +1,5 @@
+pub mod LimitExamples
+pub mod RefusalExamples
+pub mod PolicyExamples
+pub mod BlockExamples
+pub mod ActExamples

@@ -1,0 +1,9 @@
+//! Worked examples that pin what no law of the definitions can: numbers at their limits, and refusals where two of them meet.
+#![tactic(auto)]
+
+mod examples;
+
+pub use examples::{
+    acts_are_answered_in_order, blocks_are_those_of_chacha, global_pins_count_by_the_policy,
+    limits_are_exact, two_refusals_meet,
+};

@@ -1,0 +1,17 @@
+pub mod Bools
+pub mod Lasting
+pub mod Logins
+pub mod Asking
+pub mod Writers
+pub mod Tries
+pub mod Recovery
+pub mod Openings
+pub mod Challenges
+pub mod Selections
+pub mod Globals
+pub mod Planned
+pub mod Soundness
+pub mod Pieces
+pub mod Presented
+pub mod Power
+pub mod Data
