@@ -4,11 +4,13 @@ ghost use Rattle.block_store.specs.Blocks.{chain, times, are_chains};
 ghost use Rattle.block_store.specs.Writes.{count_of, ChainFits};
 
 use crate::directory::{blocks, first_in, length_in, next_in};
+use crate::layout::DIRECTORY;
+use piv_model::limits::{LONGEST_OBJECT, MOST_BLOCKS, OBJECTS};
 
 // Marks the blocks of a chain, unless one of them isn't below the budget or is marked already.
 fn add_chain(
-    used: &mut [bool; 2048],
-    directory: &[u8; 4228],
+    used: &mut [bool; MOST_BLOCKS],
+    directory: &[u8; DIRECTORY],
     first: usize,
     count: usize,
     budget: usize,
@@ -34,14 +36,14 @@ fn add_chain(
 }
 
 /// Whether no object is too long, all numbers that are read are below the budget, and no block is read twice.
-pub(crate) fn has_chains(directory: &[u8; 4228], budget: usize) -> bool
+pub(crate) fn has_chains(directory: &[u8; DIRECTORY], budget: usize) -> bool
     requires { budget ≤ 2048 }
     ensures { result ≡ are_chains budget directory.now }
 {
-    let mut used = [false; 2048];
-    for place in 0..33 {
+    let mut used = [false; MOST_BLOCKS];
+    for place in 0..OBJECTS {
         let n = length_in(directory, place);
-        if n > 16384 {
+        if n > LONGEST_OBJECT {
             return false;
         }
         let first = first_in(directory, place);

@@ -5,8 +5,11 @@ mod deciding;
 mod directory;
 mod form;
 mod laying;
+mod layout;
 mod putting;
 mod reading;
+#[cfg(test)]
+mod tests;
 mod writing;
 
 pub use form::Blocks;

@@ -1,18 +1,19 @@
 // A put: new blocks first, then the directory, which its selector makes live.
-ghost use Rattle.std.specs.Prelude.{◌≡◌, ◌+◌, ◌<◌, ◌≤◌, ℕ, length, true, min, take, slice_index, EachIndex, IsTrue, IfSome, OnOk, OnErr};
+ghost use Rattle.std.specs.Prelude.{◌≡◌, ◌+◌, ◌<◌, ◌≤◌, ℕ, length, true, take, slice_index, EachIndex, IfSome, OnOk, OnErr};
 ghost use Rattle.power_loss.specs.Told.{LostWhereDue};
 ghost use Rattle.nvm_slots.specs.Slots.{Kept, Cut};
 ghost use Rattle.piv_model.specs.Memory.{blocks as blocks_of, blocks_used};
 ghost use Rattle.card_image.specs.Images.{HasObject, MayHaveObject, KeepsObjects, budget_of};
 ghost use Rattle.block_store.specs.Blocks.{objects_of, block_form, blocks_read};
-ghost use Rattle.block_store.specs.Writes.{Differ, FreeToChoose};
+ghost use Rattle.block_store.specs.Writes.{FreeToChoose};
 
 use crate::directory::{blocks, directory_twin, enter, lowest_free, read_directory, used_blocks};
+use crate::layout::{DIRECTORY, MOST_PARTS};
 use crate::writing::write_blocks;
 use nvm_device::{Lost, Nvm};
 
 // The lowest blocks that no object has.
-fn choose(directory: &[u8; 4228], count: usize) -> [usize; 256]
+fn choose(directory: &[u8; DIRECTORY], count: usize) -> [usize; MOST_PARTS]
     requires { count ≤ 256 }
     ensures size { length result ≡ 256 }
     ensures low { EachIndex result (λ j. slice_index result j < 2048) }

@@ -1,12 +1,14 @@
 // The values of objects.
-ghost use Rattle.std.specs.Prelude.{◌≡◌, ◌+◌, ◌-◌, ◌*◌, ◌<◌, ◌≤◌, ℕ, length, true, IfSome, slice_index};
+ghost use Rattle.std.specs.Prelude.{◌≡◌, ◌+◌, ◌-◌, ◌*◌, ◌<◌, ◌≤◌, length, true, IfSome, slice_index};
 ghost use Rattle.nvm_device.specs.Bytes.{bytes_at, overwrite};
 ghost use Rattle.piv_model.specs.Memory.{blocks as blocks_of};
 ghost use Rattle.card_image.specs.Images.{IfKeeps, object_in};
 ghost use Rattle.block_store.specs.Blocks.{chain_of, length_in, place_of_block, block_form};
 
 use crate::directory::{first_in, length_in, next_in, read_directory};
+use crate::layout::FIRST_BLOCK;
 use nvm_device::Nvm;
+use piv_model::limits::{BLOCK, LONGEST_OBJECT, MOST_BLOCKS};
 
 /// The length of an object, 0 where it is absent.
 pub(crate) fn object_length<N: Nvm>(nvm: &N, place: usize) -> usize
@@ -16,7 +18,7 @@ pub(crate) fn object_length<N: Nvm>(nvm: &N, place: usize) -> usize
     ensures told { IfKeeps block_form (N.state nvm.now) (λ row. result ≡ length (object_in block_form row place)) }
     ensures few { result ≤ 16384 }
 {
-    length_in(&read_directory(nvm), place).min(16384)
+    length_in(&read_directory(nvm), place).min(LONGEST_OBJECT)
 }
 
 fn copy_part(out: &mut [u8], from: usize, part: &[u8])
@@ -36,8 +38,11 @@ fn fill_part<N: Nvm>(nvm: &N, block: usize, out: &mut [u8], from: usize, n: usiz
     ensures told { IfSome (N.state nvm.now).bytes (λ row. block < 2048
         → out.new ≡ overwrite out.old from (bytes_at row (place_of_block block) n)) }
 {
-    let mut buffer = [0; 64];
-    nvm.read(8768 + 64 * block.min(2047), &mut buffer[..n]);
+    let mut buffer = [0; BLOCK];
+    nvm.read(
+        FIRST_BLOCK + BLOCK * block.min(MOST_BLOCKS - 1),
+        &mut buffer[..n],
+    );
     copy_part(out, from, &buffer[..n]);
 }
 
@@ -52,9 +57,9 @@ pub(crate) fn fill_object<N: Nvm>(nvm: &N, place: usize, out: &mut [u8])
     let directory = read_directory(nvm);
     let mut block = first_in(&directory, place);
     let size = out.len();
-    for j in 0..size.div_ceil(64) {
-        let from = 64 * j;
-        fill_part(nvm, block, out, from, (size - from).min(64));
+    for j in 0..size.div_ceil(BLOCK) {
+        let from = BLOCK * j;
+        fill_part(nvm, block, out, from, (size - from).min(BLOCK));
         block = next_in(&directory, block);
     }
 }
@@ -85,5 +90,5 @@ pub(crate) fn read_part<N: Nvm>(nvm: &N, place: usize, number: usize, out: &mut 
         → out.new ≡ bytes_at object (64 * number) (length out.old)) }
 {
     let block = block_at(&read_directory(nvm), place, number);
-    nvm.read(8768 + 64 * block.min(2047), out);
+    nvm.read(FIRST_BLOCK + BLOCK * block.min(MOST_BLOCKS - 1), out);
 }

@@ -1,11 +1,13 @@
 // The blocks of a value, one write each.
-ghost use Rattle.std.specs.Prelude.{◌≡◌, ◌+◌, ◌*◌, ◌<◌, ◌≤◌, ℕ, length, true, slice_index, EachIndex, OnOk, OnErr};
+ghost use Rattle.std.specs.Prelude.{◌≡◌, ◌+◌, ◌*◌, ◌<◌, ◌≤◌, length, true, slice_index, EachIndex, OnOk, OnErr};
 ghost use Rattle.power_loss.specs.Told.{LostWhereDue};
 ghost use Rattle.nvm_slots.specs.Slots.{Kept, Cut};
 ghost use Rattle.piv_model.specs.Memory.{blocks as blocks_of};
 ghost use Rattle.block_store.specs.Writes.{KeepsOthers, WroteParts};
 
+use crate::layout::FIRST_BLOCK;
 use nvm_device::{Lost, Nvm};
+use piv_model::limits::BLOCK;
 
 /// Writes a value into these blocks.
 pub(crate) fn write_blocks<N: Nvm>(nvm: &mut N, chosen: &[usize], value: &[u8]) -> Result<(), Lost>
@@ -22,9 +24,9 @@ pub(crate) fn write_blocks<N: Nvm>(nvm: &mut N, chosen: &[usize], value: &[u8]) 
     ensures size { OnOk result ((N.state nvm.new).size ≡ (N.state nvm.old).size) }
 {
     for (j, block) in chosen.iter().enumerate() {
-        let from = 64 * j;
-        let to = value.len().min(from + 64);
-        nvm.write(8768 + 64 * *block, &value[from..to])?;
+        let from = BLOCK * j;
+        let to = value.len().min(from + BLOCK);
+        nvm.write(FIRST_BLOCK + BLOCK * *block, &value[from..to])?;
     }
     Ok(())
 }

@@ -6,6 +6,7 @@ ghost use Rattle.card_image.specs.Images.{IfKeeps, object_in};
 
 use crate::objects::Objects;
 use nvm_device::Nvm;
+use piv_model::limits::BLOCK;
 
 // Whether an object has these bytes from byte `64 * number` on.
 fn has_part<N: Nvm, O: Objects>(nvm: &N, place: usize, number: usize, part: &[u8]) -> bool
@@ -18,7 +19,7 @@ fn has_part<N: Nvm, O: Objects>(nvm: &N, place: usize, number: usize, part: &[u8
         64 * number + length part.now ≤ length object
         → result ≡ bytes_eq (bytes_at object (64 * number) (length part.now)) part.now) }
 {
-    let mut buffer = [0; 64];
+    let mut buffer = [0; BLOCK];
     let out = &mut buffer[..part.len()];
     O::part(nvm, place, number, out);
     &*out == part
@@ -35,9 +36,9 @@ pub(crate) fn has_value<N: Nvm, O: Objects>(nvm: &N, place: usize, value: &[u8])
     if size != value.len() {
         return false;
     }
-    for number in 0..size.div_ceil(64) {
-        let from = 64 * number;
-        let to = size.min(from + 64);
+    for number in 0..size.div_ceil(BLOCK) {
+        let from = BLOCK * number;
+        let to = size.min(from + BLOCK);
         let same = has_part::<N, O>(nvm, place, number, &value[from..to]);
         if !same {
             return false;

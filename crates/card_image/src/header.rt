@@ -1,5 +1,5 @@
 // The first 256 bytes of a device.
-ghost use Rattle.std.specs.Prelude.{◌≡◌, ◌≤◌, ◌<◌, ℕ, List, length, true, IsTrue, IfSome, OnOk, OnErr};
+ghost use Rattle.std.specs.Prelude.{◌≡◌, ◌≤◌, ◌<◌, length, true, IfSome, OnOk, OnErr};
 ghost use Rattle.power_loss.specs.Told.{LostWhereDue};
 ghost use Rattle.nvm_slots.specs.Slots.{Kept, Cut};
 ghost use Rattle.card_image.specs.Header.{is_first, references_twin, header_of};

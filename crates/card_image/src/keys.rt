@@ -4,6 +4,7 @@ ghost use Rattle.piv_model.specs.Sound.{key_size};
 ghost use Rattle.card_image.specs.Header.{header_of, key_in};
 ghost use Rattle.card_image.specs.Places.{place_of_key};
 
+use crate::layout::KEY;
 use aes_block::Key;
 use nvm_device::Nvm;
 use piv_model::KeyId;
@@ -24,7 +25,7 @@ fn place_of_key(key: KeyId) -> usize
 {
     match key {
         KeyId::AdminKey => 0,
-        KeyId::CardAuth => 33,
+        KeyId::CardAuth => KEY,
     }
 }
 

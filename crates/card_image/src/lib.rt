@@ -5,6 +5,7 @@ mod comparing;
 mod header;
 mod image;
 mod keys;
+pub mod layout;
 mod looking;
 mod migrating;
 mod objects;

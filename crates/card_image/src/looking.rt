@@ -1,17 +1,19 @@
 // Whether the bytes of a device stand for a memory.
-ghost use Rattle.std.specs.Prelude.{◌≡◌, ◌↔◌, ◌+◌, ◌<◌, ◌≤◌, ◌&&◌, ℕ, nat_le, length, true, is_some, IsTrue, IfSome};
+ghost use Rattle.std.specs.Prelude.{◌≡◌, ◌↔◌, ◌+◌, ◌<◌, ◌≤◌, ◌&&◌, nat_le, length, true, is_some, IsTrue, IfSome};
 ghost use Rattle.nvm_device.specs.Bytes.{bytes_at};
 ghost use Rattle.piv_model.specs.Forms.{is_pin, is_policy, is_discovery};
-ghost use Rattle.piv_model.specs.Sound.{is_algorithm, is_limited, may_stand};
-ghost use Rattle.card_image.specs.Header.{header_of, reference_in, global_in};
+ghost use Rattle.piv_model.specs.Sound.{is_algorithm, may_stand};
+ghost use Rattle.card_image.specs.Header.{header_of};
 ghost use Rattle.card_image.specs.Images.{IsImage, IfKeeps, object_in};
 ghost use Rattle.card_image.specs.Looking.{are_references, are_keys, IsBlank};
 
 use crate::header::read_references;
 use crate::keys::read_keys;
+use crate::layout::KEY;
 use crate::objects::Objects;
 use crate::room::{blocks_of_all, read_budget};
 use nvm_device::Nvm;
+use piv_model::limits::MOST_BLOCKS;
 use piv_references::read_pin;
 
 fn is_counter(limit: u8, tries: u8) -> bool
@@ -45,7 +47,7 @@ fn are_references(bytes: &[u8; 30]) -> bool
 fn are_keys(bytes: &[u8; 66]) -> bool
     ensures { result ≡ are_keys bytes.now }
 {
-    is_algorithm(bytes[0]) && is_algorithm(bytes[33])
+    is_algorithm(bytes[0]) && is_algorithm(bytes[KEY])
 }
 
 #[tactic(auto, unfolding(crate::specs::Header::header_of))]
@@ -120,7 +122,7 @@ pub(crate) fn is_image<N: Nvm, O: Objects>(nvm: &N) -> bool
     if budget == 0 {
         return false;
     }
-    if budget > 2048 {
+    if budget > MOST_BLOCKS {
         return false;
     }
     let references = read_references(nvm);

@@ -5,14 +5,15 @@ ghost use Rattle.card_image.specs.Images.{budget_of, memory_of, IsImage, IfKeeps
 
 use crate::objects::Objects;
 use nvm_device::Nvm;
+use piv_model::limits::{BLOCK, LONGEST_OBJECT, OBJECTS};
 
-// How many blocks of 64 bytes.
+// How many blocks.
 fn blocks(n: usize) -> usize
     requires { n ≤ 16384 }
     ensures blocks { result ≡ blocks_of n }
     ensures few { result ≤ 256 }
 {
-    n.div_ceil(64)
+    n.div_ceil(BLOCK)
 }
 
 // The blocks of all objects.
@@ -23,7 +24,7 @@ pub(crate) fn blocks_of_all<N: Nvm, O: Objects>(nvm: &N) -> usize
     ensures few { result ≤ 8448 }
 {
     let mut total = 0;
-    for place in 0..33 {
+    for place in 0..OBJECTS {
         total += blocks(O::length(nvm, place));
     }
     total
@@ -49,7 +50,7 @@ pub(crate) fn has_room<N: Nvm, O: Objects>(nvm: &N, value: &[u8]) -> bool
         → result ≡ fits (memory_of O.form row) value.now) }
     ensures short { result ≡ true → length value.now ≤ 16384 }
 {
-    if value.len() > 16384 {
+    if value.len() > LONGEST_OBJECT {
         return false;
     }
     blocks(value.len()) + blocks_of_all::<N, O>(nvm) <= read_budget(nvm)

@@ -2,12 +2,17 @@
 use Rattle.std.specs.Prelude.{◌≡◌, ℕ, Option, Some, None}
 use Rattle.power_loss.specs.Plans.{PlanState, planned_in, plan_after}
 use Rattle.piv_model.specs.Memory.{Memory}
+use Rattle.memory_store.specs.Told.{told}
 use Rattle.memory_store.specs.declared.loss.Leaves.{Leaves}
 use Rattle.memory_store.specs.declared.loss.Leaves.TheVariants.{Old, New}
 use Rattle.memory_store.specs.declared.store.MemoryStore.{MemoryStore}
 
 abbrev pub memory_of : MemoryStore → Memory
 memory_of s = s.memory
+
+-- that memory, where the store tells it
+abbrev pub told_memory : MemoryStore → Option Memory
+told_memory s = told s.told s.memory
 
 -- its plan of losses, from the next write on
 abbrev pub plan_of : MemoryStore → PlanState Leaves

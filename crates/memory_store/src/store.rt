@@ -115,7 +115,7 @@ impl MemoryStore {
 impl Store for MemoryStore {
     type Ticket = Ticket;
 
-    ghost use Rattle.memory_store.specs.Kept.{memory_of, plan_of, KeepsMemory};
+    ghost use Rattle.memory_store.specs.Kept.{memory_of, told_memory, plan_of, KeepsMemory};
     ghost use Rattle.memory_store.specs.Laws.{told_rises};
 
     ghost state = { λ s. record {
@@ -138,7 +138,7 @@ impl Store for MemoryStore {
 
     fn has(&self, r: RefId) -> bool
         requires on { IsTrue (⟦<MemoryStore as Store>⟧.state self.now).power.on }
-        ensures value { IfSome (⟦<MemoryStore as Store>⟧.state self.now).mem (λ m. result ≡ has_reference m r) }
+        ensures value { IfSome (told_memory self.now) (λ m. result ≡ has_reference m r) }
         ensures own { (r ≡ GlobalPin → ⊥) → result ≡ true }
         ensures kept { result ≡ has_reference (memory_of self.now) r }
     {
@@ -147,8 +147,8 @@ impl Store for MemoryStore {
 
     fn tries(&self, r: RefId) -> u8
         requires on { IsTrue (⟦<MemoryStore as Store>⟧.state self.now).power.on }
-        requires has { IfSome (⟦<MemoryStore as Store>⟧.state self.now).mem (λ m. IsTrue (has_reference m r)) }
-        ensures value { IfSome (⟦<MemoryStore as Store>⟧.state self.now).mem (λ m. result ≡ (reference m r).tries) }
+        requires has { IfSome (told_memory self.now) (λ m. IsTrue (has_reference m r)) }
+        ensures value { IfSome (told_memory self.now) (λ m. result ≡ (reference m r).tries) }
         ensures few { result ≤ 15 }
         ensures kept { let m = memory_of self.now in
             IsTrue (has_reference m r) → result ≡ min (reference m r).tries 15 }
@@ -161,8 +161,8 @@ impl Store for MemoryStore {
 
     fn spend(&mut self, r: RefId) -> Result<Ticket, Lost>
         requires on { IsTrue (⟦<MemoryStore as Store>⟧.state self.old).power.on }
-        requires has { IfSome (⟦<MemoryStore as Store>⟧.state self.old).mem (λ m. IsTrue (has_reference m r)) }
-        requires some { IfSome (⟦<MemoryStore as Store>⟧.state self.old).mem (λ m. 0 < (reference m r).tries) }
+        requires has { IfSome (told_memory self.old) (λ m. IsTrue (has_reference m r)) }
+        requires some { IfSome (told_memory self.old) (λ m. 0 < (reference m r).tries) }
         ensures ticket { IfOk result (λ t. ⟦<MemoryStore as Store>⟧.spent_of t ≡ r) }
         ensures ok { let state = ⟦<MemoryStore as Store>⟧.state in
             OnOk result (state self.new ≡ changed 2 (change_reference r one_less) (state self.old)) }
@@ -179,7 +179,7 @@ impl Store for MemoryStore {
     fn matches(&self, t: Ticket, candidate: &[u8; 8]) -> bool
         requires on { IsTrue (⟦<MemoryStore as Store>⟧.state self.now).power.on }
         ensures value { let spent_of = ⟦<MemoryStore as Store>⟧.spent_of in
-            IfSome (⟦<MemoryStore as Store>⟧.state self.now).mem (λ m. result ≡ bytes_eq candidate.now (reference m (spent_of t)).secret) }
+            IfSome (told_memory self.now) (λ m. result ≡ bytes_eq candidate.now (reference m (spent_of t)).secret) }
         ensures kept { let r = ⟦<MemoryStore as Store>⟧.spent_of t in let m = memory_of self.now in
             IsTrue (has_reference m r) → result ≡ bytes_eq candidate.now (reference m r).secret }
     {
@@ -196,7 +196,7 @@ impl Store for MemoryStore {
 
     fn restore(&mut self, r: RefId) -> Result<(), Lost>
         requires on { IsTrue (⟦<MemoryStore as Store>⟧.state self.old).power.on }
-        requires has { IfSome (⟦<MemoryStore as Store>⟧.state self.old).mem (λ m. IsTrue (has_reference m r)) }
+        requires has { IfSome (told_memory self.old) (λ m. IsTrue (has_reference m r)) }
         ensures ok { let state = ⟦<MemoryStore as Store>⟧.state in
             OnOk result (state self.new ≡ changed 2 (change_reference r full) (state self.old)) }
         ensures lost { let state = ⟦<MemoryStore as Store>⟧.state in
@@ -210,7 +210,7 @@ impl Store for MemoryStore {
 
     fn renew(&mut self, r: RefId, new: &[u8; 8]) -> Result<(), Lost>
         requires on { IsTrue (⟦<MemoryStore as Store>⟧.state self.old).power.on }
-        requires has { IfSome (⟦<MemoryStore as Store>⟧.state self.old).mem (λ m. IsTrue (has_reference m r)) }
+        requires has { IfSome (told_memory self.old) (λ m. IsTrue (has_reference m r)) }
         requires form { IsTrue (is_secret r new.now) }
         ensures ok { let state = ⟦<MemoryStore as Store>⟧.state in
             OnOk result (state self.new ≡ changed 2 (change_reference r (renewed new.now)) (state self.old)) }
@@ -239,10 +239,11 @@ impl Store for MemoryStore {
 
     fn put(&mut self, id: ObjectId, value: &[u8]) -> Result<(), PutFault>
         requires on { IsTrue (⟦<MemoryStore as Store>⟧.state self.old).power.on }
-        requires form { IfSome (⟦<MemoryStore as Store>⟧.state self.old).mem (λ m. IsTrue (may_stand (is_some m.global) id value.now)) }
-        ensures room { IfSome (⟦<MemoryStore as Store>⟧.state self.old).mem (λ m. AnswersRoom (fits m value.now) result) }
+        requires form { IfSome (told_memory self.old) (λ m. IsTrue (may_stand (is_some m.global) id value.now)) }
+        ensures room { IfSome (told_memory self.old) (λ m. AnswersRoom (fits m value.now) result) }
         ensures puts { let state = ⟦<MemoryStore as Store>⟧.state in
-            Puts (⟦<MemoryStore as Store>⟧.put_cost (length value.now)) id value.now result (state self.old) (state self.new) }
+            let cost = ⟦<MemoryStore as Store>⟧.put_cost (length value.now) in
+            Puts cost id value.now result (state self.old) (state self.new) }
         ensures due { let due = (⟦<MemoryStore as Store>⟧.state self.old).power.due in
             LostAsDue (⟦<MemoryStore as Store>⟧.put_cost (length value.now)) due result }
         ensures kept_room { AnswersRoom (fits (memory_of self.old) value.now) result }
@@ -261,7 +262,7 @@ impl Store for MemoryStore {
 
     fn length(&self, id: ObjectId) -> usize
         requires on { IsTrue (⟦<MemoryStore as Store>⟧.state self.now).power.on }
-        ensures value { IfSome (⟦<MemoryStore as Store>⟧.state self.now).mem (λ m. result ≡ length (stored m id)) }
+        ensures value { IfSome (told_memory self.now) (λ m. result ≡ length (stored m id)) }
         ensures small { result ≤ 16384 }
         ensures kept { result ≡ length (stored (memory_of self.now) id) }
     {
@@ -270,8 +271,8 @@ impl Store for MemoryStore {
 
     fn fill(&self, id: ObjectId, out: &mut [u8])
         requires on { IsTrue (⟦<MemoryStore as Store>⟧.state self.now).power.on }
-        requires whole { IfSome (⟦<MemoryStore as Store>⟧.state self.now).mem (λ m. length out.old ≡ length (stored m id)) }
-        ensures value { IfSome (⟦<MemoryStore as Store>⟧.state self.now).mem (λ m. out.new ≡ stored m id) }
+        requires whole { IfSome (told_memory self.now) (λ m. length out.old ≡ length (stored m id)) }
+        ensures value { IfSome (told_memory self.now) (λ m. out.new ≡ stored m id) }
         ensures kept { let value = stored (memory_of self.now) id in
             length out.old ≡ length value → out.new ≡ value }
     {
@@ -282,7 +283,7 @@ impl Store for MemoryStore {
 
     fn same(&self, id: ObjectId, value: &[u8]) -> bool
         requires on { IsTrue (⟦<MemoryStore as Store>⟧.state self.now).power.on }
-        ensures value { IfSome (⟦<MemoryStore as Store>⟧.state self.now).mem (λ m. result ≡ bytes_eq (stored m id) value.now) }
+        ensures value { IfSome (told_memory self.now) (λ m. result ≡ bytes_eq (stored m id) value.now) }
         ensures kept { result ≡ bytes_eq (stored (memory_of self.now) id) value.now }
     {
         self.memory.value(id) == value
@@ -290,7 +291,7 @@ impl Store for MemoryStore {
 
     fn algorithm(&self, key: KeyId) -> u8
         requires on { IsTrue (⟦<MemoryStore as Store>⟧.state self.now).power.on }
-        ensures value { IfSome (⟦<MemoryStore as Store>⟧.state self.now).mem (λ m. result ≡ (key_at m key).algorithm) }
+        ensures value { IfSome (told_memory self.now) (λ m. result ≡ (key_at m key).algorithm) }
         ensures one { IsTrue (is_algorithm result) }
         ensures kept { result ≡ (key_at (memory_of self.now) key).algorithm }
     {
@@ -299,7 +300,7 @@ impl Store for MemoryStore {
 
     fn encipher(&self, key: KeyId, block: &[u8; 16]) -> [u8; 16]
         requires on { IsTrue (⟦<MemoryStore as Store>⟧.state self.now).power.on }
-        ensures value { IfSome (⟦<MemoryStore as Store>⟧.state self.now).mem (λ m. result ≡ enciphered (key_at m key).key block.now) }
+        ensures value { IfSome (told_memory self.now) (λ m. result ≡ enciphered (key_at m key).key block.now) }
         ensures kept { result ≡ enciphered (key_at (memory_of self.now) key).key block.now }
     {
         self.memory.key(key).encipher(block)

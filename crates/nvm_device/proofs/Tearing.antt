@@ -5,11 +5,12 @@ use Rattle.std.proofs.lemmas.List.FromFn.{map-range_with_len_more, length-map-ra
 use Rattle.std.specs.declared.option.Option.{Option}
 use Rattle.std.specs.Option.{option_map}
 use Rattle.power_loss.specs.Due.{is_due, due_after, after_writes}
-use Rattle.power_loss.specs.Power.{Power, power_after}
+use Rattle.power_loss.specs.Power.{Power, RisesWithin, power_after}
 use Rattle.nvm_device.specs.Bytes.{bytes_at, overwrite}
 use Rattle.nvm_device.specs.Device.{DeviceState, written, Torn}
 use Rattle.nvm_device.specs.Losses.{repeated}
 use Rattle.nvm_device.specs.UnderPlan.{LeavesAny, Tore}
+use Rattle.nvm_device.proofs.OwnLosses.{lost-itself}
 use Rattle.nvm_device.proofs.Row.{length-bytes_at, length-overwrite, overwrite_same, overwrite_none, overwrite_more, bytes_at-overwrite_above}
 
 -- n bytes that may stand in a range
@@ -83,8 +84,8 @@ module _ (place i : ℕ) (pattern : List ℕ) (s t : DeviceState) (tore : Tore p
         back = λ none. tore.back (still_none t.power.due kept (sym due ∙ none));
       }
 
-  pub tore_itself : (n : ℕ) (u : DeviceState) → i < n → place + n ≤ s.size → Torn (place + i) 1 t u → IfSome t.power.due (λ due. is_due 1 due ≡ true) → LeavesAny place n s u
-  tore_itself n u below within lost now =
+  pub tore_itself : (n : ℕ) (u : DeviceState) → i < n → place + n ≤ s.size → Torn (place + i) 1 t u → IfSome t.power.due (λ due. is_due 1 due ≡ true) → RisesWithin t.power.span t.power.due → LeavesAny place n s u
+  tore_itself n u below within lost now rises =
       let left = lost.left in
       let due = ap (λ (p : Power). p.due) lost.power in
       let front = repeated pattern i in
@@ -104,4 +105,5 @@ module _ (place i : ℕ) (pattern : List ℕ) (s t : DeviceState) (tore : Tore p
           power = lost.power ∙ ap (λ (p : Power). record p { on = false; losses = u.power.losses; due = option_map (due_after 1) t.power.due }) tore.power ∙ (λ j. record s.power { on = false; losses = u.power.losses; due = sym due j });
         };
         was_due = λ none. let told = tore.forth none in let both : false ≡ true = rw told at now in cc;
+        loses = lost-itself _ t.power u.power lost rises now;
       }

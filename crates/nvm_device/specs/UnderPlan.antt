@@ -18,6 +18,11 @@ due_under false due (Some (first ∷ later)) = None
 due_under false due None = None
 due_under true due told = None
 
+-- It tells that no loss comes, and has no plan of losses: it never loses a write.
+pub record NeverLoses (power : Power) : Type 0 where
+  pub due : power.due ≡ Some []
+  pub span : power.span ≡ 0
+
 -- the inner device, and whether it has lost a write by itself
 pub record Below : Type 0 where
   pub state : DeviceState
@@ -61,6 +66,7 @@ pub record LeavesAsPlanned (how : How) (place : ℕ) (bytes : List ℕ) (old new
 pub record LeavesAny (place n : ℕ) (old new : DeviceState) : Type 0 where
   pub lost : PowerLost new.power.due (TornRow place n old new) old.power new.power
   pub was_due : old.power.due ≡ Some [] → ⊥
+  pub loses : NeverLoses new.power → ⊥
 
 -- a write that the plan loses, alone or with the inner device
 abbrev pub LosesPlanned : How → ℕ → List ℕ → Below → Below → Type 0

@@ -1,11 +1,11 @@
 // A device that loses power at planned writes.
-ghost use Rattle.std.specs.Prelude.{◌≡◌, ◌+◌, ◌<◌, ◌≤◌, true, false, length, OnOk, OnErr};
+ghost use Rattle.std.specs.Prelude.{◌≡◌, ◌+◌, ◌<◌, ◌≤◌, true, false, length, IsSome, OnOk, OnErr};
 ghost use Rattle.power_loss.specs.Due.{RisesFrom, RisesFrom-prop};
 ghost use Rattle.power_loss.specs.Told.{LostWhereDue};
 ghost use Rattle.power_loss.specs.Power.{switched_off, switched_on};
 ghost use Rattle.nvm_device.specs.Device.{written, Torn};
 ghost use Rattle.power_loss.specs.Plans.{write_numbers, whole, planned_in, plan_after};
-ghost use Rattle.nvm_device.specs.UnderPlan.{under_plan, unspoiled, powered, LeavesAsPlanned, LeavesAny, WritesUnder, Tore};
+ghost use Rattle.nvm_device.specs.UnderPlan.{under_plan, unspoiled, powered, LeavesAsPlanned, LeavesAny, NeverLoses, WritesUnder, Tore};
 
 use crate::loss::{How, Loss};
 use crate::{Lost, Nvm};
@@ -15,12 +15,13 @@ use power_loss::Plan;
 /// range what its loss says, or any bytes where the inner device loses that write by itself too.
 /// Both losses count, up to the last `u64`.
 #[derive(Drop)]
-pub struct Fused<N> {
+pub struct Fused<N: Nvm> {
     inner: N,
     plan: Plan<How>,
     spoiled: bool,
     ghost rises: { RisesFrom 0 (write_numbers plan.to_come) } by { RisesFrom-prop 0 (write_numbers plan.to_come) },
     ghost within: { length plan.to_come ≤ plan.span },
+    ghost loses: { spoiled ≡ true → NeverLoses (N.state inner).power → ⊥ },
 }
 
 impl<N: Nvm> Fused<N> {
@@ -42,9 +43,10 @@ impl<N: Nvm> Fused<N> {
         }
     }
 
-    /// The inner device.
+    /// The inner device. Where that never loses a write by itself, the later losses were told.
     pub fn into_inner(self) -> N
-        ensures { result ≡ inner_of self }
+        ensures inner { result ≡ inner_of self }
+        ensures told { NeverLoses (N.state result).power → IsSome (⟦<Fused<N> as Nvm>⟧.state self).power.due }
     {
         let Fused {
             inner,

@@ -1,16 +1,18 @@
 // The objects of a start, each in the first slot of its record.
-ghost use Rattle.std.specs.Prelude.{◌≡◌, ◌+◌, ◌*◌, ◌≤◌, ◌<◌, ℕ, List, [], ◌∷◌, length, true, OnOk, OnErr};
+ghost use Rattle.std.specs.Prelude.{◌≡◌, ◌+◌, ◌*◌, ◌≤◌, ◌<◌, ℕ, List, ◌∷◌, length, true, OnOk, OnErr};
 ghost use Rattle.nvm_device.specs.Device.{DeviceState};
 ghost use Rattle.nvm_slots.specs.Laying.{Piece, Laying, Fell, FrontKept};
-ghost use Rattle.piv_model.specs.Memory.{blocks_used};
 ghost use Rattle.piv_model.specs.Starts.{value_at};
-ghost use Rattle.card_image.specs.Laying.{objects_area, values, Done, LaidObjects};
-ghost use Rattle.twin_store.specs.Twins.{record_front, twin_pieces, twin_form};
+ghost use Rattle.card_image.specs.Laying.{objects_area, Done, LaidObjects};
+ghost use Rattle.twin_store.specs.Twins.{record_front, twin_form};
 
+use crate::layout::RECORD;
 use card_image::lay_value;
+use card_image::layout::HEADER;
 use nvm_device::{Lost, Nvm};
 use nvm_slots::lay;
 use piv_model::StartObjects;
+use piv_model::limits::OBJECTS;
 
 // Lays an object's record, its first slot live.
 fn lay_record<N: Nvm>(nvm: &mut N, k: usize, value: &[u8]) -> Result<(), Lost>
@@ -28,7 +30,7 @@ fn lay_record<N: Nvm>(nvm: &mut N, k: usize, value: &[u8]) -> Result<(), Lost>
         → Laying objects_area pieces (256 + 32773 * k) s (N.state nvm.old)
         → Fell (FrontKept objects_area) s (N.state nvm.new)) }
 {
-    let place = 256 + 32773 * k;
+    let place = HEADER + RECORD * k;
     let n = value.len();
     lay(nvm, place, &[0, (n / 256) as u8, (n % 256) as u8])?;
     lay_value(nvm, place + 3, value)?;
@@ -43,7 +45,7 @@ pub(crate) fn lay_records<N: Nvm>(nvm: &mut N, objects: &StartObjects) -> Result
     ensures laid { OnOk result (Done (LaidObjects twin_form objects.now) (N.state nvm.old) (N.state nvm.new)) }
     ensures fell { OnErr result (Fell (FrontKept objects_area) (N.state nvm.old) (N.state nvm.new)) }
 {
-    for k in 0..33 {
+    for k in 0..OBJECTS {
         lay_record(nvm, k, objects.find(k))?;
     }
     Ok(())

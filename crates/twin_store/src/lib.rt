@@ -3,7 +3,10 @@
 
 mod form;
 mod laying;
+mod layout;
 mod records;
+#[cfg(test)]
+mod tests;
 
 pub use form::Twins;
 

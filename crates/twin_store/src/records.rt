@@ -6,18 +6,21 @@ ghost use Rattle.nvm_slots.specs.Slots.{Kept, Cut};
 ghost use Rattle.card_image.specs.Images.{HasObject, MayHaveObject, KeepsObjects, IfKeeps, object_in};
 ghost use Rattle.twin_store.specs.Twins.{object_twin, value_twin, part_twin, length_at, are_short, spelled, twin_form};
 
+use crate::layout::{RECORD, SLOT};
+use card_image::layout::HEADER;
 use nvm_device::{Lost, Nvm};
 use nvm_slots::Twin;
+use piv_model::limits::{BLOCK, LONGEST_OBJECT, OBJECTS};
 
 fn object(place: usize) -> Twin
     requires { place < 33 }
     ensures { result ≡ object_twin place }
 {
-    let at = 256 + 32773 * place;
+    let at = HEADER + RECORD * place;
     Twin {
         selector: at,
-        slot: [at + 1, at + 16387],
-        size: 16386,
+        slot: [at + 1, at + 1 + SLOT],
+        size: SLOT,
     }
 }
 
@@ -26,11 +29,11 @@ fn value(place: usize) -> Twin
     requires { place < 33 }
     ensures { result ≡ value_twin place }
 {
-    let at = 256 + 32773 * place;
+    let at = HEADER + RECORD * place;
     Twin {
         selector: at,
-        slot: [at + 3, at + 16389],
-        size: 16384,
+        slot: [at + 3, at + 3 + SLOT],
+        size: LONGEST_OBJECT,
     }
 }
 
@@ -40,11 +43,11 @@ fn part(place: usize, number: usize) -> Twin
     requires number { number < 256 }
     ensures { result ≡ part_twin place number }
 {
-    let at = 256 + 32773 * place;
+    let at = HEADER + RECORD * place;
     Twin {
         selector: at,
-        slot: [at + 3 + 64 * number, at + 16389 + 64 * number],
-        size: 64,
+        slot: [at + 3 + BLOCK * number, at + 3 + SLOT + BLOCK * number],
+        size: BLOCK,
     }
 }
 
@@ -67,8 +70,8 @@ pub(crate) fn has_short<N: Nvm>(nvm: &N) -> bool
     requires size { 1114112 ≤ (N.state nvm.now).size }
     ensures { IfSome (N.state nvm.now).bytes (λ row. result ≡ are_short row) }
 {
-    for place in 0..33 {
-        if written_length(nvm, place) > 16384 {
+    for place in 0..OBJECTS {
+        if written_length(nvm, place) > LONGEST_OBJECT {
             return false;
         }
     }
@@ -83,7 +86,7 @@ pub(crate) fn value_length<N: Nvm>(nvm: &N, place: usize) -> usize
     ensures told { IfKeeps twin_form (N.state nvm.now) (λ row. result ≡ length (object_in twin_form row place)) }
     ensures few { result ≤ 16384 }
 {
-    written_length(nvm, place).min(16384)
+    written_length(nvm, place).min(LONGEST_OBJECT)
 }
 
 /// Reads an object into `out`, which has its length.
@@ -94,7 +97,7 @@ pub(crate) fn fill_value<N: Nvm>(nvm: &N, place: usize, out: &mut [u8])
     ensures { IfKeeps twin_form (N.state nvm.now) (λ row. let object = object_in twin_form row place in
         length out.old ≡ length object → out.new ≡ object) }
 {
-    if out.len() <= 16384 {
+    if out.len() <= LONGEST_OBJECT {
         value(place).read(nvm, out);
     }
 }
@@ -115,7 +118,7 @@ pub(crate) fn read_part<N: Nvm>(nvm: &N, place: usize, number: usize, out: &mut 
 }
 
 // Length and value at the beginning of a buffer, since a put writes both at once.
-fn spell<'a>(buffer: &'a mut [u8; 16386], value: &[u8]) -> &'a [u8]
+fn spell<'a>(buffer: &'a mut [u8; SLOT], value: &[u8]) -> &'a [u8]
     requires { length value.now ≤ 16384 }
     ensures { result.now ≡ spelled value.now }
 {
@@ -137,7 +140,7 @@ pub(crate) fn put_value<N: Nvm>(nvm: &mut N, place: usize, value: &[u8]) -> Resu
     ensures lost { OnErr result (Cut 2 (MayHaveObject twin_form place value.now) (N.state nvm.old) (N.state nvm.new)) }
     ensures due { LostWhereDue 2 (N.state nvm.old).power.due result }
 {
-    let mut buffer = [0; 16386];
+    let mut buffer = [0; SLOT];
     let bytes = spell(&mut buffer, value);
     let twin = object(place);
     match twin.replace(nvm, bytes) {

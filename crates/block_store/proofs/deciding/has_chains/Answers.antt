@@ -7,8 +7,8 @@ use Rattle.block_store.proofs.deciding.has_chains.Goals as goal
 pub loop-place-init : goal.loop-place-init
 loop-place-init c = record { size = refl; short = λ j low. absurd (omega arith); below = λ j low. absurd (omega arith); counts = λ b low. counts_none c.args.directory.now b }
 
-pub returns-then-n-gt16384 : goal.returns-then-n-gt16384
-returns-then-n-gt16384 c = too_long c.args.budget c.loop-place.place c.args.directory.now c.loop-place-test.true (let long = c.if-n-gt16384.true in let is = c.length_in-n.ensures.length in omega (arith, long, is))
+pub returns-then-n-gt-LONGEST_OBJECT : goal.returns-then-n-gt-LONGEST_OBJECT
+returns-then-n-gt-LONGEST_OBJECT c = too_long c.args.budget c.loop-place.place c.args.directory.now c.loop-place-test.true (let long = c.if-n-gt-LONGEST_OBJECT.true in let is = c.length_in-n.ensures.length in omega (arith, long, is))
 
 pub returns-then-not-fits : goal.returns-then-not-fits
 returns-then-not-fits c =
@@ -25,7 +25,7 @@ loop-place-preserved c =
     let same = chain_is_of d k c.blocks-count.result c.length_in-n.result c.first_in-first.result c.blocks-count.ensures.blocks c.length_in-n.ensures.length c.first_in-first.ensures.first in
     record {
       size = c.add_chain-fits.array_long;
-      short = one_more_short d k c.length_in-n.result c.length_in-n.ensures.length c.if-n-gt16384.false c.loop-place.invariant.short;
+      short = one_more_short d k c.length_in-n.result c.length_in-n.ensures.length c.if-n-gt-LONGEST_OBJECT.false c.loop-place.invariant.short;
       below = one_more_below c.args.budget k d chain_k same (c.add_chain-fits.ensures.fits.0 c.if-not-fits.false).below c.loop-place.invariant.below;
       counts = λ b low. counts_more d c.loop-place.used c.add_chain-fits.new.used k b chain_k same (c.loop-place.invariant.counts b low) (c.add_chain-fits.ensures.counts c.if-not-fits.false b low);
     }

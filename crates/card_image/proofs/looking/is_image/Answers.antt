@@ -14,6 +14,6 @@ pub returns : goal.returns
 returns g c =
     let s = g.N.Nvm.state c.args.nvm.now in
     accept g.O.Objects.form s.bytes c.read_references-references.result c.has_mark-marked.result c.are_references-sound.result c.are_keys-known.result c.are_objects-kept.result c.has_discovery.result c.read_budget-budget.result c.blocks_of_all.result g.met.O.Objects.is_form
-    (rows_enough 1114112 s.size s.bytes c.requires.size (g.met.N.Nvm.row_size c.args.nvm.now)) c.has_mark-marked.ensures c.if-not-marked.false c.read_budget-budget.ensures c.if-budget-eq0.false c.if-budget-gt2048.false
+    (rows_enough 1114112 s.size s.bytes c.requires.size (g.met.N.Nvm.row_size c.args.nvm.now)) c.has_mark-marked.ensures c.if-not-marked.false c.read_budget-budget.ensures c.if-budget-eq0.false c.if-budget-gt-MOST_BLOCKS.false
     c.read_references-references.ensures.references c.are_references-sound.ensures c.if-not-sound.false (keys_told s.bytes c.read_keys.result c.are_keys-known.result c.read_keys.ensures.keys c.are_keys-known.ensures) c.if-not-known.false
     c.are_objects-kept.ensures c.if-not-kept.false c.blocks_of_all.ensures.told c.if-blocks_of_all-budget.false c.has_discovery.ensures
