@@ -3,10 +3,8 @@
 
 mod commands;
 mod replies;
-mod single;
 #[cfg(test)]
 mod tests;
 
 pub use commands::{read_apdu, write_command};
 pub use replies::{read_reply, write_reply};
-pub use single::read_command;

@@ -1,32 +1,7 @@
-use crate::{read_apdu, read_command, read_reply, write_command, write_reply};
+use crate::{read_apdu, read_reply, write_command, write_reply};
 use arrayvec::ArrayVec;
 use piv_model::Command;
 use std::test::Fail;
-
-#[test]
-fn reads_the_short_forms_of_one_class_alone(rt: HostRuntime) -> Result<(), Fail> {
-    let cases: [(&[u8], Result<&[u8], u16>); 6] = [
-        (&[0x00, 0xCB, 0x3F], Err(0x6700)),
-        (&[0x10, 0xA4, 0x04, 0x00], Err(0x6E00)),
-        (&[0x00, 0xA4, 0x04, 0x00, 0x00], Ok(&[])),
-        (&[0x00, 0xA4, 0x04, 0x00, 0x10], Err(0x6700)),
-        (
-            &[0x00, 0xA4, 0x04, 0x00, 0x02, 0x01, 0x02, 0x00],
-            Ok(&[0x01, 0x02]),
-        ),
-        (
-            &[0x00, 0xA4, 0x04, 0x00, 0x02, 0x01, 0x02, 0x10],
-            Err(0x6700),
-        ),
-    ];
-    for (bytes, read) in cases {
-        assert!(rt;
-            read_command(bytes).map(|apdu| apdu.body) == read,
-            "{bytes:?}"
-        );
-    }
-    Ok(())
-}
 
 #[test]
 fn reads_each_length_and_le_and_refuses_the_rest(rt: HostRuntime) -> Result<(), Fail> {

@@ -1,19 +1,19 @@
 -- A command that is cut is joined again, and the pieces of a reply are the reply.
-use Rattle.std.proofs.Common.{◌≡◌, ◌⊎◌, inl, inr, ℕ, ◌+◌, ◌-◌, ◌≤◌, Bool, true, false, List, [], ◌∷◌, ◌++◌, length, take, drop, Option, Some, None, refl, ap, sym, subst, ◌∙◌, arith, length-append, length-drop, append_assoc}
-use Rattle.std.specs.Prelude.{◌==◌, ◌&&◌, nat_lt, flat_map, replicate, if◌then◌else◌}
+use Rattle.std.proofs.Common.{◌≡◌, ◌⊎◌, inl, inr, ℕ, ◌≤◌, Bool, true, false, List, [], ◌∷◌, ◌++◌, length, take, drop, Option, Some, None, refl, ap, sym, subst, ◌∙◌, arith, length-append, length-drop, append_assoc}
+use Rattle.std.specs.Prelude.{◌==◌, flat_map, replicate, if◌then◌else◌}
 use Rattle.std.specs.List.{AllByRecursion}
 use Rattle.std.proofs.lemmas.Bool.{le-ltb}
 use Rattle.std.proofs.lemmas.Bool.Decides.{nat_tests}
 use Rattle.std.proofs.lemmas.List.{take-append-drop}
 use Rattle.piv_model.specs.Commands.{CardCommand, CardApdu}
-use Rattle.piv_model.specs.Chains.{Link, PartOf, WholeOf, RefusedBy, linked, sized, extended, same_header, goes_on}
+use Rattle.piv_model.specs.Chains.{Link, PartOf, WholeOf, RefusedBy, linked, sized, same_header}
 use Rattle.piv_model.specs.StatusWords.{piece_word}
 use Rattle.piv_chaining.specs.declared.joiner.Joining.{Joining}
 use Rattle.piv_chaining.specs.declared.joiner.Joining.TheVariants.{Part, Whole, Refused}
 use Rattle.piv_chaining.specs.Chains.{Chain, chain_of}
 use Rattle.piv_chaining.specs.Fed.{IsFed}
-use Rattle.piv_chaining.specs.Waiting.{Waiting, IsGiven}
-use Rattle.piv_chaining.specs.Cuttings.{AreFed, HasHeader, CuttingsAreJoined, Piece, AreGiven, all_bytes, AreWorded, PiecesAreWhole}
+use Rattle.piv_chaining.specs.Waiting.{Waiting}
+use Rattle.piv_chaining.specs.Cuttings.{AreFed, HasHeader, CuttingsAreJoined, all_bytes, PiecesAreWhole}
 
 -- these bytes of a command were joined so far
 abbrev HasJoined : CardCommand → List ℕ → Chain → Type 0

@@ -3,7 +3,7 @@ use Rattle.std.proofs.Common.{◌≡◌, ℕ, zero, suc, ◌+◌, ◌-◌, ◌�
 use Rattle.std.specs.Prelude.{min}
 use Rattle.std.proofs.lemmas.List.{length-take-le}
 use Rattle.piv_model.specs.StatusWords.{piece_word}
-use Rattle.piv_chaining.specs.Waiting.{Waiting, IsGiven}
+use Rattle.piv_chaining.specs.Waiting.{Waiting}
 
 drop-drop : (g n : ℕ) (xs : List ℕ) → drop (g + n) xs ≡ drop n (drop g xs)
 drop-drop g n [] = none (g + n) n g

@@ -1,5 +1,5 @@
 -- What a list of APDUs makes of a joiner, and a list of GET RESPONSEs of a reply (ISO/IEC 7816-4).
-use Rattle.std.specs.Prelude.{◌≡◌, ℕ, ◌≤◌, List, [], ◌∷◌, ◌++◌, length, map, flat_map, replicate, true, false, Some}
+use Rattle.std.specs.Prelude.{◌≡◌, ℕ, ◌≤◌, List, [], ◌∷◌, ◌++◌, length, flat_map, replicate, false, Some}
 use Rattle.std.specs.List.{AllByRecursion}
 use Rattle.piv_model.specs.Commands.{CardCommand, CardApdu}
 use Rattle.piv_model.specs.Chains.{linked}

@@ -3,3 +3,5 @@ pub mod Waiting
 pub mod Fed
 pub mod Filling
 pub mod Cuttings
+pub mod Lending
+pub mod FillerLending

@@ -22,6 +22,18 @@ impl Filler<'_> {
     {
         self.pieces.push(bytes);
     }
+
+    ghost use Rattle.std.specs.Borrow.{sem};
+    ghost use Rattle.piv_chaining.specs.FillerLending.{LendsRoom};
+
+    /// Adds room for so many bytes, which fit, and lends it for writing.
+    pub fn lend(&mut self, size: usize) -> &mut [u8]
+        requires { (filled self.old).used + size ≤ 16400 }
+        ensures* writes_back { sem 𝓛 (LendsRoom self.entry size result) }
+        ensures size { length result.now ≡ size }
+    {
+        self.pieces.lend(size)
+    }
 }
 
 impl Pieces {

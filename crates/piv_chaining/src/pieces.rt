@@ -63,7 +63,22 @@ impl Pieces {
         self.bytes.extend_from_slice(bytes).unwrap();
     }
 
+    ghost use Rattle.std.specs.Borrow.{sem, follows_so};
+    ghost use Rattle.piv_chaining.specs.Lending.{LendsRoom};
+
+    /// Adds room for so many bytes, which fit, and lends it for writing: what is written there waits.
+    pub fn lend(&mut self, size: usize) -> &mut [u8]
+        requires { self.old.used + size ≤ 16400 }
+        ensures* writes_back { sem 𝓛 (LendsRoom self.entry size result) }
+        ensures size { length result.now ≡ size }
+    {
+        let start = self.bytes.len();
+        self.bytes.resize(start + size, 0).unwrap();
+        self.bytes.slice_mut(start..)
+    }
+
     /// Adds the value of an object, which has this size.
+    #[tactic(auto, using(crate::proofs::Rooms::rooms))]
     pub fn push_object<S: Store>(&mut self, store: &S, id: ObjectId, size: usize)
         requires on { IsTrue (S.state store.now).power.on }
         requires room { self.old.used + size ≤ 16400 }
@@ -71,9 +86,8 @@ impl Pieces {
         ensures waiting { IfSome (S.state store.now).mem (λ m. self.new.waiting ≡ self.old.waiting ++ stored m id) }
         ensures used { self.new.used ≡ self.old.used + size }
     {
-        let start = self.bytes.len();
-        self.bytes.resize(start + size, 0).unwrap();
-        store.fill(id, &mut self.bytes[start..]);
+        let room = self.lend(size);
+        store.fill(id, room);
     }
 
     /// Gives the next piece, at most so many bytes: its word, or none where nothing waits. The piece is then
@@ -94,7 +108,6 @@ impl Pieces {
         Some(piece_word(left - size))
     }
 
-    ghost use Rattle.std.specs.Borrow.{sem, follows_so};
     ghost use mathlib.Core.Option.{none};
     ghost use Rattle.piv_chaining.specs.contracts.pieces.Pieces.{the_row};
 

@@ -159,6 +159,20 @@ fn a_rest_is_announced_by_its_number_of_bytes(rt: HostRuntime) -> Result<(), Fai
     Ok(())
 }
 
+#[test]
+fn what_is_written_into_lent_room_waits_behind_what_was_pushed(
+    rt: HostRuntime,
+) -> Result<(), Fail> {
+    let reply = [0x53, 0x04, 0x3E, 0x00, 0xFE, 0x00];
+    let mut pieces = Pieces::new(rt.alloc())?;
+    pieces.load().push(&reply[..2]);
+    pieces.lend(4).copy_from_slice(&reply[2..]);
+    assert!(rt; pieces.next(256) == Some((reply.as_slice(), 0x9000)));
+    pieces.load().lend(6).copy_from_slice(&reply);
+    assert!(rt; pieces.next(256) == Some((reply.as_slice(), 0x9000)));
+    Ok(())
+}
+
 fn moves<T: Send>(value: T) -> T {
     value
 }

@@ -1,5 +1,4 @@
-use Rattle.std.proofs.Common.{◌≡◌, ap, sym, ◌∙◌, refl, arith, length, ◌-◌, ◌≤◌, rules}
-use Rattle.std.proofs.lemmas.Grind.{common_steps}
+use Rattle.std.proofs.Common.{◌≡◌, ap, sym, arith, length, ◌-◌, ◌≤◌, rules}
 use Rattle.piv_chaining.specs.Waiting.{Waiting}
 use Rattle.piv_chaining.proofs.Parts.{stepped, left-over}
 use Rattle.piv_chaining.proofs.pieces.Pieces.step.Goals as goal
