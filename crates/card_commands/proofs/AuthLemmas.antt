@@ -1,6 +1,6 @@
 -- What the fields of a dynamic authentication template mean, by the form of the data.
 use Rattle.std.proofs.Common.{◌≡◌, ◌∙◌, ◌⊎◌, inl, inr, ℕ, ◌+◌, ◌≤◌, Bool, true, false, List, [], ◌∷◌, Option, Some, None, length, refl, sym, ap, subst, arith}
-use Rattle.std.specs.Prelude.{suc, ◌==◌, ◌&&◌, ◌||◌, nat_le, count_by, find, option_map, option_and_then, if◌then◌else◌}
+use Rattle.std.specs.Prelude.{◌==◌, ◌&&◌, ◌||◌, count_by, option_map, option_and_then, if◌then◌else◌}
 use Rattle.std.specs.Borrow.{Bor}
 use Rattle.std.specs.List.{list_all, AllByRecursion}
 use Rattle.std.specs.Option.{option_to_list, option_copied}
@@ -10,8 +10,8 @@ use Rattle.ber_tlv.specs.Elements.{Element, AreElements, element, elements_of}
 use Rattle.ber_tlv.proofs.Laws.{reads_elements}
 use Rattle.piv_model.specs.declared.kinds.KeyId.{KeyId}
 use Rattle.piv_model.specs.declared.kinds.KeyId.TheVariants.{AdminKey, CardAuth}
-use Rattle.piv_objects.specs.Templates.{Fields, values_of, AreFields, Holds, IsTemplate, IsField}
-use Rattle.piv_rules.specs.Asks.{Ask, meant, auth_meant}
+use Rattle.piv_objects.specs.Templates.{Fields, values_of, AreFields, IsTemplate, IsField}
+use Rattle.piv_rules.specs.Asks.{meant, auth_meant}
 use Rattle.piv_rules.specs.Forms.{Field, Absent, Empty, Sixteen, field, fields_of, are_fields, is_field, stands_once}
 use Rattle.auth_protocol.specs.Meant as meaning
 use Rattle.card_commands.specs.Asking.{auth_of}

@@ -1,17 +1,17 @@
 -- What executing comes to, where it makes no write, and where the store carries it.
-use Rattle.std.proofs.Common.{◌≡◌, ◌∙◌, ◌⊎◌, inl, inr, ◌∷◌, ℕ, ◌≤◌, Bool, true, false, List, [], length, Option, Some, None, IfSome, IsTrue, Result, Ok, Err, refl, ap, sym, subst, arith}
-use Rattle.std.specs.Prelude.{◌-◌, ◌&&◌, not, if◌then◌else◌, nat_le, nat_lt, is_some, option_map}
+use Rattle.std.proofs.Common.{◌≡◌, ◌∙◌, inl, inr, ◌∷◌, ℕ, true, false, List, [], Option, Some, None, IfSome, Result, Ok, Err, refl, ap, sym, subst, arith}
+use Rattle.std.specs.Prelude.{◌&&◌, nat_le, is_some, option_map}
 use Rattle.std.proofs.lemmas.Bool.Decides.{nat_tests}
-use Rattle.power_loss.specs.Due.{is_due, due_after, after_loss}
+use Rattle.power_loss.specs.Due.{due_after, after_loss}
 use Rattle.power_loss.specs.Power.{Power, RisesWithin}
-use Rattle.power_loss.specs.Told.{Rose, LostWhereDue}
+use Rattle.power_loss.specs.Told.{LostWhereDue}
 use Rattle.piv_model.specs.declared.kinds.Interface.{Interface}
 use Rattle.piv_model.specs.declared.kinds.Application.TheVariants.{Piv, Idle}
 use Rattle.piv_model.specs.declared.kinds.RefId.{RefId}
 use Rattle.piv_model.specs.declared.kinds.RefId.TheVariants.{Pin, Puk, GlobalPin}
 use Rattle.piv_model.specs.declared.kinds.Took.{Took}
 use Rattle.piv_model.specs.declared.kinds.Took.TheVariants.{Nothing, Spent, Done}
-use Rattle.piv_model.specs.Memory.{Memory, has, fits}
+use Rattle.piv_model.specs.Memory.{Memory}
 use Rattle.piv_model.specs.Stores.{StoreState, changed}
 use Rattle.piv_rules.specs.Asks.{Ask, Purpose, Verify, Change, Unblock, Refused, Select, Get, Put, Logout, Query, Compare, Internal, AskChallenge, External, AskWitness, Mutual}
 use Rattle.piv_rules.specs.declared.table.Conditions.{Conditions}
@@ -28,10 +28,8 @@ use Rattle.card_commands.specs.declared.executed.Broken.TheVariants.{Spending, F
 use Rattle.card_commands.specs.Carried.{Carries, Breaks, LostBetween, IsBetween, last_lines_word}
 use Rattle.card_commands.specs.Tells.{IsApt}
 use Rattle.card_commands.proofs.Calls.{unchanged}
-use Rattle.card_commands.proofs.Listed.{last-listed}
-use Rattle.piv_rules.specs.AnswerWords.{is_answer_word}
 use Rattle.card_commands.specs.declared.executed.Executed.{Executed}
-use Rattle.card_commands.specs.Executes.{Executes, IsReply, IsAnswered, KeepsPower, TellsAlike}
+use Rattle.card_commands.specs.Executes.{Executes, IsReply, KeepsPower, TellsAlike}
 
 -- PIV is selected, and the access rule holds
 abbrev pub IsByTable : Ask → Type 0
@@ -63,11 +61,10 @@ none-due (Some (d ∷ due)) span rises done =
 -- it makes no write
 pub still : (put_cost : ℕ → ℕ) (a : Ask) (says : Memory → Reply) (block : List ℕ) (done : Executed) (body : List ℕ) (x y : Channel) (s : StoreState)
     → RisesWithin s.power.span s.power.due
-    → IsTrue (is_answer_word done.sw) → cost_of put_cost a done.sw ≡ 0 → ((m : Memory) → memory_after a (took_by done.sw) m ≡ m)
+    → cost_of put_cost a done.sw ≡ 0 → ((m : Memory) → memory_after a (took_by done.sw) m ≡ m)
     → ((m : Memory) → s.mem ≡ Some m → IsReply a (says m) block done body x y)
     → Executes put_cost (λ m. a) says block (Ok done) body x y s s
-still put_cost a says block done body x y s rises listed none same replies = record {
-  word = listed;
+still put_cost a says block done body x y s rises none same replies = record {
   answered = λ m told. record {
     says = (replies m told).says;
     draws = (replies m told).draws;
@@ -145,7 +142,6 @@ carried put_cost a i block done result sw x y old new table none piv rule carrie
             channel = rw none after;
             memory = c.carried;
           };
-      word = last-listed a sw c.kind;
       others = subst (λ (s : StoreState). KeepsPower old.power s.power) (sym c.carried) refl;
       broken = tt;
       off = tt;
@@ -172,7 +168,6 @@ lost put_cost a i block result b x y old new table piv rule carries is apt =
     let loss = broken-lost put_cost a b old new c.broken in
     record {
       answered = tt;
-      word = tt;
       others = tt;
       broken = λ m told. record {
         breaks = c.broken;
@@ -210,7 +205,7 @@ pub forbidden : (put_cost : ℕ → ℕ) (a : Ask) (i : Interface) (block : List
     → Executes put_cost (λ m. a) (λ m. answer_to (situation m i block x) a) block (Ok done) [] x y s s
 forbidden put_cost a i block done x y s rises none same served draws piv rule is after =
     subst (λ (d : Executed). Executes put_cost (λ m. a) (λ m. answer_to (situation m i block x) a) block (Ok d) [] x y s s) (sym is)
-    (still put_cost a (λ m. answer_to (situation m i block x) a) block (record { sw = 0x6982; drew = false }) [] x y s rises refl none same
+    (still put_cost a (λ m. answer_to (situation m i block x) a) block (record { sw = 0x6982; drew = false }) [] x y s rises none same
     (λ m told. denied a i block x y m served draws piv (rule m told) after))
 
 -- a refused comparison leaves each login
@@ -269,7 +264,7 @@ pub unserved : (put_cost : ℕ → ℕ) (a : Ask) (i : Interface) (block : List 
 unserved put_cost a i block done x y s rises piv is after =
     let u = unmoved-6D00 put_cost a in
     subst (λ (d : Executed). Executes put_cost (λ m. a) (λ m. answer_to (situation m i block x) a) block (Ok d) [] x y s s) (sym is)
-    (still put_cost a (λ m. answer_to (situation m i block x) a) block (record { sw = 0x6D00; drew = false }) [] x y s rises refl u.cost u.memory
+    (still put_cost a (λ m. answer_to (situation m i block x) a) block (record { sw = 0x6D00; drew = false }) [] x y s rises u.cost u.memory
     (λ m told. record {
       says = not-piv a i block x m piv;
       draws = sym u.draws;

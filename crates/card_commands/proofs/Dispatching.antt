@@ -1,8 +1,6 @@
 -- From what is asked to what a command asks.
-use Rattle.std.proofs.Common.{◌≡◌, ◌∙◌, ◌∷◌, ℕ, ◌≤◌, Bool, true, false, List, [], length, Option, Some, None, IfSome, IsTrue, Result, Ok, Err, refl, ap, sym, subst, arith}
-use Rattle.std.specs.Prelude.{◌-◌, ◌&&◌, ◌||◌, ◌==◌, not, is_some, if◌then◌else◌}
-use Rattle.std.specs.Str.{bytes_eq}
-use Rattle.std.proofs.lemmas.Bool.Decides.{nat_tests}
+use Rattle.std.proofs.Common.{◌≡◌, ◌∙◌, ℕ, Bool, true, false, List, Option, Some, None, IfSome, IsTrue, Result, Ok, Err, refl, ap, sym, subst}
+use Rattle.std.specs.Prelude.{◌==◌, not, is_some, if◌then◌else◌}
 use Rattle.power_loss.specs.Power.{RisesWithin}
 use Rattle.piv_model.specs.declared.kinds.Interface.{Interface}
 use Rattle.piv_model.specs.declared.kinds.Application.{Application}
@@ -18,18 +16,15 @@ use Rattle.piv_model.specs.Stores.{StoreState}
 use Rattle.piv_rules.specs.Asks.{Ask, named, Refused, Select, Get, Put, Logout, Query, Compare, Internal, AskChallenge, External, AskWitness, Mutual, ask, select_ask, is_at}
 use Rattle.piv_rules.specs.Answers.{Reply, situation, answer_to, answer_in, select_reply}
 use Rattle.piv_rules.specs.Channels.{Channel}
-use Rattle.piv_rules.specs.AnswerWords.{is_answer_word}
 use Rattle.piv_rules.specs.Effects.{memory_after, took_by}
-use Rattle.piv_rules.specs.Logins.{NonePending}
 use Rattle.piv_rules.specs.Plans.{cost_of}
 use Rattle.card_commands.specs.declared.executed.Broken.{Broken}
 use Rattle.auth_protocol.specs.declared.form.AuthAsk.{AuthAsk}
 use Rattle.auth_protocol.specs.declared.form.AuthAsk.TheVariants as auth
 use Rattle.card_commands.specs.declared.executed.Executed.{Executed}
-use Rattle.card_commands.specs.Asking.{IsKept, auth_of, profile_by}
-use Rattle.card_commands.specs.Served.{served}
-use Rattle.card_commands.specs.Executes.{Executes, IsReply, Replies, IsAnswered, asked, replied}
-use Rattle.card_commands.proofs.Carrying.{still, unserved}
+use Rattle.card_commands.specs.Asking.{IsKept, auth_of}
+use Rattle.card_commands.specs.Executes.{Executes, IsReply, Replies, asked, replied}
+use Rattle.card_commands.proofs.Carrying.{still}
 
 -- a reference that the card has, where the store tells
 has-kept : (g : Bool) (r : RefId) (m : Memory) → g ≡ is_some m.global → IsKept g r → IsTrue (has m r)
@@ -99,11 +94,11 @@ select-quiet k = go (not (is_at k 0x04 0x00)) (application_named k.body)
 
 -- a command that makes no write
 pub quiet : (put_cost : ℕ → ℕ) (a : Ask) (says : Memory → Reply) (block : List ℕ) (done : Executed) (body : List ℕ) (x y : Channel) (s : StoreState)
-    → RisesWithin s.power.span s.power.due → IsTrue (is_answer_word done.sw) → IsQuiet a
+    → RisesWithin s.power.span s.power.due → IsQuiet a
     → ((m : Memory) → s.mem ≡ Some m → IsReply a (says m) block done body x y)
     → Executes put_cost (λ m. a) says block (Ok done) body x y s s
-quiet put_cost a says block done body x y s rises listed q replies =
-    still put_cost a says block done body x y s rises listed (quiet-cost put_cost a done.sw q) (λ m. quiet-memory a (took_by done.sw) m q) replies
+quiet put_cost a says block done body x y s rises q replies =
+    still put_cost a says block done body x y s rises (quiet-cost put_cost a done.sw q) (λ m. quiet-memory a (took_by done.sw) m q) replies
 
 -- the same ask, over each memory that is told
 pub transfer : (put_cost : ℕ → ℕ) (asks asked : Memory → Ask) (says said : Memory → Reply) (block : List ℕ) (result : Result Executed Broken) (body : List ℕ) (x y : Channel) (old new : StoreState)
@@ -117,7 +112,6 @@ transfer put_cost asks asked says said block (Ok done) body x y old new same say
   off = tt;
   rose = tt;
   due = λ m told. let a = same m told in let r = says_same m told in rw (← a, ← r) (h.due m told);
-  word = h.word;
   span = h.span;
   told = h.told;
 }
@@ -128,14 +122,13 @@ transfer put_cost asks asked says said block (Err b) body x y old new same says_
   off = h.off;
   rose = h.rose;
   due = λ m told. let a = same m told in let r = says_same m told in rw (← a, ← r) (h.due m told);
-  word = h.word;
   span = h.span;
   told = h.told;
 }
 
 -- a SELECT
 pub ask-select : (p : Profile) (m : Memory) (k : CardCommand) → k.ins ≡ 0xA4 → select_ask k ≡ asked m k
-unfolding ask served
+unfolding ask
 ask-select p m k is = rw is refl
 
 says-select : (m : Memory) (i : Interface) (block : List ℕ) (x : Channel) (k : CardCommand) → k.ins ≡ 0xA4
@@ -144,14 +137,14 @@ unfolding answer_in
 says-select m i block x k is = rw is refl
 
 pub selected : (put_cost : ℕ → ℕ) (k : CardCommand) (i : Interface) (block : List ℕ) (done : Executed) (body : List ℕ) (x y : Channel) (s : StoreState)
-    → k.ins ≡ 0xA4 → RisesWithin s.power.span s.power.due → IsTrue (is_answer_word done.sw)
+    → k.ins ≡ 0xA4 → RisesWithin s.power.span s.power.due
     → ((m : Memory) → IsReply (select_ask k) (select_reply (situation m i block x) (select_ask k)) block done body x y)
     → Executes put_cost (λ m. asked m k) (λ m. replied m i block x k) block (Ok done) body x y s s
-selected put_cost k i block done body x y s is rises listed replies =
-    let asks = λ (m : Memory) (told : s.mem ≡ Some m). ask-select (profile_of served m) m k is in
+selected put_cost k i block done body x y s is rises replies =
+    let asks = λ (m : Memory) (told : s.mem ≡ Some m). ask-select (profile_of m) m k is in
     transfer put_cost (λ m. select_ask k) (λ m. asked m k) (λ m. select_reply (situation m i block x) (select_ask k)) (λ m. replied m i block x k) block (Ok done) body x y s s
     asks (λ m told. ap (select_reply (situation m i block x)) (asks m told) ∙ says-select m i block x k is)
-    (quiet put_cost (select_ask k) (λ m. select_reply (situation m i block x) (select_ask k)) block done body x y s rises listed (select-quiet k) (λ m told. replies m))
+    (quiet put_cost (select_ask k) (λ m. select_reply (situation m i block x) (select_ask k)) block done body x y s rises (select-quiet k) (λ m told. replies m))
 
 -- any other command
 says-other : (m : Memory) (i : Interface) (block : List ℕ) (x : Channel) (k : CardCommand) → (k.ins == 0xA4) ≡ false
@@ -177,8 +170,8 @@ carried-asked put_cost a b i block result body given x y old new e none h =
     (subst (λ (z : List ℕ). Executes put_cost (λ m. b) (λ m. answer_to (situation m i block x) b) block result z x y old new) (sym none) h)
 
 pub quiet-asked : (put_cost : ℕ → ℕ) (a b : Ask) (i : Interface) (block : List ℕ) (done : Executed) (body given : List ℕ) (x y : Channel) (s : StoreState)
-    → RisesWithin s.power.span s.power.due → IsTrue (is_answer_word done.sw) → a ≡ b → body ≡ given → IsQuiet b → Replies b i block done given x y s.mem
+    → RisesWithin s.power.span s.power.due → a ≡ b → body ≡ given → IsQuiet b → Replies b i block done given x y s.mem
     → Executes put_cost (λ m. a) (λ m. answer_to (situation m i block x) a) block (Ok done) body x y s s
-quiet-asked put_cost a b i block done body given x y s rises listed e none q replies =
+quiet-asked put_cost a b i block done body given x y s rises e none q replies =
     carried-asked put_cost a b i block (Ok done) body given x y s s e none
-    (quiet put_cost b (λ m. answer_to (situation m i block x) b) block done given x y s rises listed q replies)
+    (quiet put_cost b (λ m. answer_to (situation m i block x) b) block done given x y s rises q replies)

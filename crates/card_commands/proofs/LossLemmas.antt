@@ -1,30 +1,29 @@
 -- A command that lost power: of the two memories that its Broken allows, the one that stands is told rightly.
-use Rattle.std.proofs.Common.{◌≡◌, ◌⊎◌, inl, inr, ℕ, ◌≤◌, ◌<◌, ◌+◌, ◌-◌, Bool, true, false, List, length, Option, Some, None, IfSome, IsTrue, refl, ap, sym, ◌∙◌, subst, arith, [], get_or-set_same, get_or}
+use Rattle.std.proofs.Common.{◌≡◌, ◌⊎◌, inl, inr, ℕ, ◌≤◌, ◌<◌, ◌+◌, ◌-◌, Bool, true, false, List, length, Option, Some, None, IfSome, IsTrue, refl, ap, sym, ◌∙◌, subst, arith, [], get_or-set_same}
 use Rattle.std.proofs.lemmas.List.{set-get_or}
 use Rattle.std.proofs.lemmas.Bool.Decides.{nat_tests}
 use Rattle.std.proofs.lemmas.Slice.Eq.{bytes_eq-Decides}
-use Rattle.std.specs.Prelude.{not, ◌&&◌, ◌||◌, ◌==◌, nat_lt, nat_le, if◌then◌else◌, option_map, is_some, unwrap_or, slice_set}
+use Rattle.std.specs.Prelude.{not, ◌&&◌, ◌||◌, ◌==◌, nat_lt, if◌then◌else◌, option_map, is_some, unwrap_or, slice_set}
 use Rattle.std.specs.Str.{bytes_eq}
 use Rattle.power_loss.specs.Due.{after_loss}
 use Rattle.power_loss.specs.Power.{Power}
 use Rattle.piv_model.specs.declared.kinds.RefId.{RefId}
 use Rattle.piv_model.specs.declared.kinds.RefId.TheVariants.{Pin, Puk, GlobalPin}
-use Rattle.piv_model.specs.declared.kinds.Took.{Took}
 use Rattle.piv_model.specs.declared.kinds.Took.TheVariants.{Nothing, Spent, Done}
 use Rattle.piv_model.specs.Memory.{Memory, Reference, no_reference, has, reference, stored}
 use Rattle.piv_model.specs.Changes.{change_reference, one_less, full, renewed, with_object}
-use Rattle.piv_model.specs.Sound.{IsSound, is_limited}
+use Rattle.piv_model.specs.Sound.{IsSound}
 use Rattle.piv_model.specs.Stores.{StoreState}
 use Rattle.piv_rules.specs.Asks.{Ask, Refused, Select, Get, Put, Logout, Query, Compare, Internal, AskChallenge, External, AskWitness, Mutual, Purpose, Verify, Change, Unblock}
-use Rattle.piv_rules.specs.Answers.{is_blocked, differs, has_no_room, tries_left}
-use Rattle.piv_rules.specs.Effects.{memory_after, after_match}
+use Rattle.piv_rules.specs.Answers.{differs}
+use Rattle.piv_rules.specs.Effects.{after_match}
 use Rattle.piv_rules.specs.Legal.{is_writer}
 use Rattle.piv_rules.specs.StatusWords.{is_granted, is_mismatched}
 use Rattle.piv_rules.specs.Memories.{is_unblock}
-use Rattle.piv_rules.specs.Losses.{can_come, is_unblocking, IsFirstOf, IsTold}
+use Rattle.piv_rules.specs.Losses.{is_unblocking, IsFirstOf, IsTold}
 use Rattle.card_commands.specs.declared.executed.Broken.{Broken}
 use Rattle.card_commands.specs.declared.executed.Broken.TheVariants.{Spending, Filling, Putting}
-use Rattle.card_commands.specs.Carried.{Breaks, LostBetween, last_lines_word}
+use Rattle.card_commands.specs.Carried.{Breaks, last_lines_word}
 use Rattle.card_commands.specs.Tells.{keeps_value, tells, IsApt}
 
 -- ---- a reference after a change

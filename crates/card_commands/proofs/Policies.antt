@@ -1,5 +1,5 @@
 -- The Discovery Object of a sound memory.
-use Rattle.std.proofs.Common.{◌≡◌, ◌≢◌, ◌∙◌, ℕ, ◌+◌, Bool, true, false, List, [], ◌∷◌, length, Option, Some, IsTrue, refl, ap, sym, subst, arith, rules}
+use Rattle.std.proofs.Common.{◌≡◌, ◌≢◌, ℕ, ◌+◌, Bool, true, false, List, [], ◌∷◌, length, IsTrue, refl, ap, arith}
 use Rattle.std.specs.Prelude.{◌==◌, ◌||◌, ◌&&◌, ◌++◌, suc, slice_index, take, drop, is_some}
 use Rattle.std.specs.Str.{bytes_eq}
 use Rattle.std.proofs.lemmas.List.{take-append-drop, length-append}
@@ -7,7 +7,7 @@ use Rattle.std.proofs.lemmas.Slice.Eq.{bytes_eq-Decides}
 use Rattle.std.proofs.lemmas.Bool.Decides.{nat_tests}
 use Rattle.piv_model.specs.Memory.{Memory, stored}
 use Rattle.piv_model.specs.Forms.{is_discovery, is_policy, discovery_head}
-use Rattle.piv_model.specs.Sound.{IsSound, may_stand}
+use Rattle.piv_model.specs.Sound.{IsSound}
 use Rattle.piv_rules.specs.Answers.{global_counts}
 
 -- a Discovery Object has 18 bytes

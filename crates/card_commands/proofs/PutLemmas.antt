@@ -1,6 +1,6 @@
 -- What PUT DATA names, by the form of its data.
-use Rattle.std.proofs.Common.{◌≡◌, ◌≢◌, ◌∙◌, ◌<◌, ℕ, Bool, true, false, List, [], ◌∷◌, Option, Some, None, length, refl, sym, ap, subst, arith}
-use Rattle.std.specs.Prelude.{◌==◌, ◌&&◌, not, nat_le, option_and_then, position, if◌then◌else◌, IsTrue}
+use Rattle.std.proofs.Common.{◌≡◌, ◌≢◌, ◌∙◌, ℕ, Bool, true, false, List, [], ◌∷◌, Option, Some, None, length, refl, sym, ap, subst, arith}
+use Rattle.std.specs.Prelude.{◌==◌, nat_le, option_and_then, position, if◌then◌else◌}
 use Rattle.std.specs.Str.{bytes_eq}
 use Rattle.std.proofs.lemmas.Bool.Decides.{nat_tests}
 use Rattle.std.proofs.lemmas.Slice.Eq.{bytes_eq-Decides}
@@ -14,7 +14,7 @@ use Rattle.piv_objects.specs.Forms.{Put, Object, Discovery, IsPut, put_of}
 use Rattle.piv_objects.specs.declared.put.PutFields.{PutFields}
 use Rattle.piv_objects.specs.declared.put.PutFields.TheVariants as fields
 use Rattle.card_commands.specs.Asking.{put_formed}
-use Rattle.piv_rules.specs.Forms.{PutForm, ObjectForm, DiscoveryForm, put_named, is_tag_list}
+use Rattle.piv_rules.specs.Forms.{PutForm, ObjectForm, DiscoveryForm, put_named}
 
 abbrev formed_by : Bool → Put → Option PutForm
 formed_by global (Object tag value) = Some (ObjectForm tag value)

@@ -1,4 +1,4 @@
--- What a command asks, as the code carries it.
+-- What a command asks, by the traits of the card, and what the readers of its data keep to.
 use Rattle.std.specs.Prelude.{◌≡◌, ◌≢◌, ◌∷◌, [], ℕ, Bool, true, List, Option, Some, None, option_map, IsTrue, if◌then◌else◌}
 use Rattle.std.specs.Borrow.{Bor}
 use Rattle.piv_objects.specs.declared.put.PutFields.{PutFields}
@@ -9,48 +9,31 @@ use Rattle.piv_model.specs.declared.kinds.RefId.TheVariants.{Pin, Puk, GlobalPin
 use Rattle.piv_model.specs.Base.{Profile}
 use Rattle.piv_model.specs.Forms.{is_pin, is_secret, is_discovery}
 use Rattle.piv_model.specs.Sound.{may_stand}
-use Rattle.piv_rules.specs.AnswerWords.{is_refusal_word}
-use Rattle.piv_rules.specs.Asks.{Ask}
-use Rattle.piv_rules.specs.Asks as asks
+use Rattle.piv_rules.specs.Asks.{Ask, Internal, AskChallenge, External, AskWitness, Mutual}
 use Rattle.auth_protocol.specs.declared.form.AuthAsk.{AuthAsk}
 use Rattle.auth_protocol.specs.declared.form.AuthAsk.TheVariants as auth
-use Rattle.card_commands.specs.declared.asked.Purpose.{Purpose}
-use Rattle.card_commands.specs.declared.asked.Purpose.TheVariants as purpose
-use Rattle.card_commands.specs.declared.asked.Asked.{Asked}
-use Rattle.card_commands.specs.declared.asked.Asked.TheVariants as asked
-use Rattle.card_commands.specs.declared.asked.Traits.{Traits}
-use Rattle.card_commands.specs.Served.{served}
+use Rattle.piv_rules.specs.declared.asked.Purpose.{Purpose}
+use Rattle.piv_rules.specs.declared.asked.Purpose.TheVariants as purpose
+use Rattle.piv_rules.specs.declared.asked.Asked.{Asked}
+use Rattle.piv_rules.specs.declared.asked.Asked.TheVariants as asked
+use Rattle.card_commands.specs.declared.traits.Traits.{Traits}
 
 abbrev pub profile_by : Traits → Profile
 profile_by t = record {
-  serves = served;
   has_global = t.has_global;
   admin_algorithm = t.admin_algorithm;
   card_algorithm = t.card_algorithm;
 }
 
-abbrev pub purpose_of : Purpose → asks.Purpose
-purpose_of purpose.Verify = asks.Verify
-purpose_of (purpose.Change n) = asks.Change n
-purpose_of (purpose.Unblock n) = asks.Unblock n
-
+-- a GENERAL AUTHENTICATE
 abbrev pub auth_of : AuthAsk → Ask
-auth_of (auth.Internal x) = asks.Internal x
-auth_of auth.Challenge = asks.AskChallenge
-auth_of (auth.External x) = asks.External x
-auth_of auth.Witness = asks.AskWitness
-auth_of (auth.Mutual w x) = asks.Mutual w x
+auth_of (auth.Internal x) = Internal x
+auth_of auth.Challenge = AskChallenge
+auth_of (auth.External x) = External x
+auth_of auth.Witness = AskWitness
+auth_of (auth.Mutual w x) = Mutual w x
 
-abbrev pub ask_of : Asked → Ask
-ask_of (asked.Refused w) = asks.Refused w
-ask_of (asked.Get id) = asks.Get id
-ask_of (asked.Put id v) = asks.Put id v.now
-ask_of (asked.Logout r) = asks.Logout r
-ask_of (asked.Query r) = asks.Query r
-ask_of (asked.Compare r p aim) = asks.Compare r p (purpose_of aim)
-ask_of (asked.Authenticate a) = auth_of a
-
--- what any ask of a card with these traits keeps to: its references are the card's, its values have their forms
+-- what any ask but SELECT of a card with these traits keeps to: its references are the card's, its values have their forms
 abbrev pub IsKept : Bool → RefId → Type 0
 IsKept global Pin = Unit {0}
 IsKept global Puk = Unit {0}
@@ -66,7 +49,7 @@ IsMeet global (asked.Put id v) = IsTrue (may_stand global id v.now)
 IsMeet global (asked.Query r) = IsKept global r
 IsMeet global (asked.Logout r) = IsKept global r
 IsMeet global (asked.Compare r p aim) = IsKept global r × Suits r aim
-IsMeet global (asked.Refused w) = IsTrue (is_refusal_word w)
+IsMeet global (asked.Select a) = ⊥
 IsMeet global _ = Unit {0}
 
 -- the bytes that are lent, if any

@@ -1,6 +1,6 @@
 -- What VERIFY, CHANGE REFERENCE DATA and RESET RETRY COUNTER, each a comparison, and PUT DATA answer and leave, once their
 -- form and access rule are tested (SP 800-73-4 part 2; what a loss of power leaves is this project's own).
-use Rattle.std.specs.Prelude.{◌≡◌, ◌⊎◌, ℕ, ◌≤◌, ◌==◌, ◌&&◌, ◌||◌, nat_le, Bool, true, false, List, length, Result, IsTrue, IfSome, IfOk, IfErr}
+use Rattle.std.specs.Prelude.{◌≡◌, ◌⊎◌, ℕ, ◌≤◌, Bool, true, false, List, length, Result, IsTrue, IfSome, IfOk, IfErr}
 use Rattle.std.specs.declared.option.Option.{Option}
 use Rattle.std.specs.Option.{option_map}
 use Rattle.std.specs.Str.{bytes_eq}
@@ -9,26 +9,19 @@ use Rattle.power_loss.specs.Told.{LostWhereDue}
 use Rattle.power_loss.specs.Power.{PowerLost}
 use Rattle.piv_model.specs.declared.kinds.Took.{Took}
 use Rattle.piv_model.specs.declared.kinds.Took.TheVariants.{Nothing, Spent, Done}
-use Rattle.piv_model.specs.StatusWords.{tries_word}
 use Rattle.piv_model.specs.Memory.{Memory, stored}
 use Rattle.piv_model.specs.Stores.{StoreState, changed}
 use Rattle.piv_rules.specs.Asks.{Ask, Put, Compare}
 use Rattle.piv_rules.specs.Answers.{is_blocked, tries_left, memory_conditions, word_by}
 use Rattle.piv_rules.specs.Effects.{memory_after, took_by}
 use Rattle.piv_rules.specs.Plans.{cost_of}
+use Rattle.card_commands.specs.Words.{is_word_for}
 use Rattle.card_commands.specs.declared.executed.Broken.{Broken}
 use Rattle.card_commands.specs.declared.executed.Broken.TheVariants.{Spending, Filling, Putting}
 
 -- the word, by the lines of the table of answers that the memory decides
 abbrev pub last_lines_word : Memory → Ask → ℕ
 last_lines_word m a = word_by (memory_conditions m a)
-
--- a word that such a command may answer, whatever the memory holds: a comparison 69 83, 63 CX with at most 14 tries left,
--- or 90 00, and a put 6A 84 or 90 00
-abbrev pub is_last_word : Ask → ℕ → Bool
-is_last_word (Compare r p purpose) sw = (sw == 0x6983) || (nat_le 0x63C0 sw && nat_le sw 0x63CE) || (sw == 0x9000)
-is_last_word (Put place v) sw = (sw == 0x6A84) || (sw == 0x9000)
-is_last_word _ sw = false
 
 -- so many tries there were, at least the one that was spent
 abbrev pub AreTries : ℕ → Type 0
@@ -80,7 +73,7 @@ pub record Carries (put_cost : ℕ → ℕ) (a : Ask) (result : Result ℕ Broke
   -- the word is that of the table of answers
   pub word : IfOk result (λ sw. IfSome old.mem (λ m. sw ≡ last_lines_word m a))
   -- whatever the memory holds it is one of theirs
-  pub kind : IfOk result (λ sw. IsTrue (is_last_word a sw))
+  pub kind : IfOk result (λ sw. IsTrue (is_word_for a sw))
   -- the memory is as far as the word tells, after so many writes
   pub carried : IfOk result (λ sw. new ≡ changed (cost_of put_cost a sw) (memory_after a (took_by sw)) old)
   -- where power was lost, the answer is the call that lost it

@@ -1,6 +1,6 @@
 -- What executing a command answers and leaves, by the table of answers and the memory that the store tells (SP 800-73-4
 -- part 2; what a loss of power leaves is this project's own).
-use Rattle.std.specs.Prelude.{◌≡◌, ℕ, Bool, false, ◌&&◌, List, Option, Some, None, is_some, IsTrue, Result, IfOk, IfErr, OnOk, OnErr, if◌then◌else◌}
+use Rattle.std.specs.Prelude.{◌≡◌, ℕ, false, ◌&&◌, List, Option, Some, None, is_some, Result, IfOk, IfErr, OnOk, OnErr, if◌then◌else◌}
 use Rattle.power_loss.specs.Power.{Power}
 use Rattle.power_loss.specs.Told.{Rose, LostWhereDue}
 use Rattle.piv_model.specs.declared.kinds.Interface.{Interface}
@@ -9,7 +9,6 @@ use Rattle.piv_model.specs.Memory.{Memory}
 use Rattle.piv_model.specs.Stores.{StoreState, changed}
 use Rattle.piv_model.specs.Base.{profile_of}
 use Rattle.piv_rules.specs.Asks.{Ask, ask}
-use Rattle.piv_rules.specs.AnswerWords.{is_answer_word}
 use Rattle.piv_rules.specs.Answers.{Reply, situation, answer_in, answer_to}
 use Rattle.piv_rules.specs.Channels.{Channel, after_call}
 use Rattle.piv_rules.specs.Effects.{memory_after, took_by}
@@ -20,14 +19,13 @@ use Rattle.card_commands.specs.declared.executed.Broken.{Broken}
 use Rattle.card_commands.specs.declared.executed.Executed.{Executed}
 use Rattle.card_commands.specs.Carried.{Breaks, last_lines_word}
 use Rattle.card_commands.specs.Tells.{IsApt}
-use Rattle.card_commands.specs.Served.{served}
 
 -- what a command asks, and its answer, over a memory and on a connection
 abbrev pub asked : Memory → CardCommand → Ask
-asked m k = ask (profile_of served m) k
+asked m k = ask (profile_of m) k
 
 abbrev pub replied : Memory → Interface → List ℕ → Channel → CardCommand → Reply
-replied m i block x k = answer_in (profile_of served m) (situation m i block x) k
+replied m i block x k = answer_in (profile_of m) (situation m i block x) k
 
 -- the block that it bears
 abbrev pub borne : Ask → ℕ → List ℕ → Option (List ℕ)
@@ -59,7 +57,6 @@ TellsAlike old new = (is_some new.mem ≡ is_some old.mem) × (is_some new.power
 pub record Executes (put_cost : ℕ → ℕ) (asks : Memory → Ask) (says : Memory → Reply) (block : List ℕ) (result : Result Executed Broken) (body : List ℕ) (before after : Channel) (old new : StoreState) : Type 0 where
   pub answered : IfOk result (λ done. (m : Memory) → old.mem ≡ Some m
       → IsAnswered put_cost (asks m) (says m) block done body before after old new)
-  pub word : IfOk result (λ done. IsTrue (is_answer_word done.sw))
   pub others : OnOk result (KeepsPower old.power new.power)
   pub broken : IfErr result (λ b. (m : Memory) → old.mem ≡ Some m → IsBroken put_cost (asks m) (says m) m b old new)
   pub off : OnErr result (new.power.on ≡ false)

@@ -1,6 +1,6 @@
-pub mod Served
 pub mod Connections
 pub mod Asking
+pub mod Words
 pub mod Carried
 pub mod Tells
 pub mod Executes

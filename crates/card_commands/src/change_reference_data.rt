@@ -2,13 +2,15 @@
 ghost use Rattle.std.specs.Prelude.{◌≡◌, Bool, IfSome};
 ghost use Rattle.piv_model.specs.Commands.{command_of};
 ghost use Rattle.piv_rules.specs.Asks.{changed_reference, change_form, change_ask};
-ghost use Rattle.card_commands.specs.Asking.{ask_of, profile_by, IsMeet, IsKept};
+ghost use Rattle.piv_rules.specs.Lent.{ask_of};
+ghost use Rattle.card_commands.specs.Asking.{profile_by, IsMeet, IsKept};
 
-use crate::asked::{Asked, Purpose, Traits};
+use crate::traits::Traits;
 use crate::verify::verified_reference;
 use piv_model::status_words::{INCORRECT_DATA, INCORRECT_P1_P2, REFERENCE_DATA_NOT_FOUND};
 use piv_model::{Command, RefId};
 use piv_references::read_pair;
+use piv_rules::{Asked, Purpose};
 
 // The reference that P2 names: the PUK, or one that VERIFY names.
 fn changed_reference(p2: u8, traits: &Traits) -> Option<RefId>

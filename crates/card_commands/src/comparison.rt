@@ -1,5 +1,5 @@
 // Comparisons with a reference: a try is spent first, and a match fills the counter.
-ghost use Rattle.std.specs.Prelude.{◌≡◌, true, IsTrue, IfSome, OnOk, OnErr, None, [], List, ℕ};
+ghost use Rattle.std.specs.Prelude.{◌≡◌, true, IsTrue, IfOk, IfSome, OnOk, OnErr, None, [], List, ℕ};
 ghost use Rattle.power_loss.specs.Told.{LostWhereDue};
 ghost use Rattle.piv_model.specs.Memory.{has};
 ghost use Rattle.piv_model.specs.Stores.{changed, CutShort};
@@ -9,19 +9,21 @@ ghost use Rattle.piv_rules.specs.Channels.{after_call};
 ghost use Rattle.piv_rules.specs.Effects.{after_match};
 ghost use Rattle.piv_rules.specs.Logins.{compared, ends_if};
 ghost use Rattle.piv_rules.specs.StatusWords.{is_mismatched};
-ghost use Rattle.card_commands.specs.Asking.{Suits, purpose_of};
+ghost use Rattle.piv_rules.specs.Lent.{purpose_of};
+ghost use Rattle.card_commands.specs.Asking.{Suits};
 ghost use Rattle.card_commands.specs.Carried.{Carries};
 ghost use Rattle.card_commands.specs.Connections.{channel_of};
 ghost use Rattle.card_commands.specs.Executes.{Executes};
+ghost use Rattle.card_commands.specs.Words.{is_compare_word};
 
 use crate::access::is_permitted;
-use crate::asked::Purpose;
 use crate::connection::Conn;
 use crate::executed::{Broken, Executed, only};
 use piv_model::status_words::{
     AUTHENTICATION_METHOD_BLOCKED, SECURITY_STATUS_NOT_SATISFIED, SUCCESS, verification_failed,
 };
 use piv_model::{Interface, Lost, RefId, Rule, Store};
+use piv_rules::Purpose;
 
 // What a match does.
 fn fill<S: Store>(store: &mut S, r: RefId, purpose: Purpose) -> Result<(), Lost>
@@ -121,7 +123,8 @@ pub(crate) fn compare<S: Store>(
     requires has { IfSome (S.state store.old).mem (λ m. IsTrue (has m r)) }
     requires suits { Suits r purpose }
     requires piv { conn.old.piv ≡ true }
-    ensures { (block : List ℕ) → let a = Compare r candidate.now (purpose_of purpose) in
+    ensures word { IfOk result (λ done. IsTrue (is_compare_word done.sw)) }
+    ensures executes { (block : List ℕ) → let a = Compare r candidate.now (purpose_of purpose) in
         Executes S.put_cost (λ m. a) (λ m. answer_to (situation m interface block (channel_of conn.old)) a) block
         result [] (channel_of conn.old) (channel_of conn.new) (S.state store.old) (S.state store.new) }
 {

@@ -4,15 +4,15 @@ ghost use Rattle.power_loss.specs.Told.{Rose, LostWhereDue};
 ghost use Rattle.piv_model.specs.declared.kinds.Interface.{Interface};
 ghost use Rattle.piv_model.specs.Commands.{command_of};
 ghost use Rattle.piv_model.specs.Memory.{Memory};
-ghost use Rattle.piv_rules.specs.AnswerWords.{is_answer_word, is_refusal_word};
 ghost use Rattle.piv_rules.specs.Answers.{answer_to, situation};
 ghost use Rattle.piv_rules.specs.Asks.{Refused, ask};
 ghost use Rattle.piv_rules.specs.Plans.{cost_of};
-ghost use Rattle.card_commands.specs.Asking.{ask_of, profile_by, IsMeet};
+ghost use Rattle.piv_rules.specs.Lent.{ask_of};
+ghost use Rattle.card_commands.specs.Asking.{profile_by, IsMeet};
 ghost use Rattle.card_commands.specs.Connections.{channel_of};
 ghost use Rattle.card_commands.specs.Executes.{asked, replied, Executes, IsAnswered, IsBroken, IsReply, KeepsPower, TellsAlike};
+ghost use Rattle.card_commands.specs.Words.{or_unserved, is_word_of, is_word_for};
 
-use crate::asked::{Asked, Traits, traits_of};
 use crate::change_reference_data::change_asked;
 use crate::comparison::compare;
 use crate::connection::Conn;
@@ -22,10 +22,13 @@ use crate::get_data::{get, get_asked};
 use crate::put_data::{place, put_asked};
 use crate::reset_retry_counter::unblock_asked;
 use crate::select::select;
+use crate::traits::{Traits, traits_of};
 use crate::verify::{log_out, query, verify_asked};
+use auth_protocol::AuthAsk;
 use piv_chaining::Pieces;
 use piv_model::status_words::INSTRUCTION_NOT_SUPPORTED;
 use piv_model::{Command, Interface, Store};
+use piv_rules::Asked;
 
 // The instructions (SP 800-73-4 part 2).
 pub(crate) const SELECT: u8 = 0xA4;
@@ -43,7 +46,7 @@ const RESET_RETRY_COUNTER: u8 = 0x2C;
 const GENERAL_AUTHENTICATE: u8 = 0x87;
 
 // What a command other than SELECT asks.
-#[tactic(auto, unfolding(piv_rules::specs::Asks::ask, crate::specs::Served::served))]
+#[tactic(auto, unfolding(piv_rules::specs::Asks::ask))]
 pub(crate) fn asked_by<'a>(command: Command<'a>, traits: &Traits) -> Asked<'a>
     requires other { command.ins ≢ 0xA4 }
     ensures asks { ask_of result ≡ ask (profile_by traits.now) (command_of command.entry) }
@@ -64,8 +67,7 @@ pub(crate) fn asked_by<'a>(command: Command<'a>, traits: &Traits) -> Asked<'a>
 #[tactic(auto, using(crate::proofs::Listed::listed), unfolding(piv_rules::specs::Answers::answer_to))]
 fn refuse(sw: u16, conn: &mut Conn) -> Executed
     requires piv { conn.old.piv ≡ true }
-    requires listed { IsTrue (is_refusal_word sw) }
-    ensures word { IsTrue (is_answer_word result.sw) }
+    ensures word { IsTrue (is_word_for (Refused sw) result.sw) }
     ensures replies { (m : Memory) (i : Interface) (block : List ℕ) → IsReply (Refused sw)
         (answer_to (situation m i block (channel_of conn.old)) (Refused sw)) block
         result [] (channel_of conn.old) (channel_of conn.new) }
@@ -90,7 +92,8 @@ fn answer<S: Store>(
     requires empty { out.old.waiting ≡ [] }
     requires meet { IsMeet traits.now.has_global asked }
     requires global { IfSome (S.state store.old).mem (λ m. traits.now.has_global ≡ is_some m.global) }
-    ensures { let a = ask_of asked.entry in
+    ensures word { IfOk result (λ done. IsTrue (or_unserved (is_word_for (ask_of asked.entry)) done.sw)) }
+    ensures executes { let a = ask_of asked.entry in
         Executes S.put_cost (λ m. a) (λ m. answer_to (situation m interface block.now (channel_of conn.old)) a) block.now
         result out.new.waiting (channel_of conn.old) (channel_of conn.new) (S.state store.old) (S.state store.new) }
 {
@@ -101,6 +104,8 @@ fn answer<S: Store>(
     }
     match asked {
         Asked::Refused(word) => Ok(refuse(word, conn)),
+        // SELECT is served before.
+        Asked::Select(_) => unreachable!(),
         Asked::Get(id) => Ok(get(id, conn, interface, store, out)),
         Asked::Put(id, value) => place(id, value, conn, interface, store),
         Asked::Logout(r) => Ok(log_out(r, conn, interface)),
@@ -108,7 +113,26 @@ fn answer<S: Store>(
         Asked::Compare(r, candidate, purpose) => {
             compare(r, &candidate, purpose, conn, interface, store)
         }
-        Asked::Authenticate(auth) => Ok(authenticate(auth, conn, interface, store, block, out)),
+        Asked::Internal(challenge) => {
+            let auth = AuthAsk::Internal(challenge);
+            Ok(authenticate(auth, conn, interface, store, block, out))
+        }
+        Asked::AskChallenge => {
+            let auth = AuthAsk::Challenge;
+            Ok(authenticate(auth, conn, interface, store, block, out))
+        }
+        Asked::External(response) => {
+            let auth = AuthAsk::External(response);
+            Ok(authenticate(auth, conn, interface, store, block, out))
+        }
+        Asked::AskWitness => {
+            let auth = AuthAsk::Witness;
+            Ok(authenticate(auth, conn, interface, store, block, out))
+        }
+        Asked::Mutual(witness, challenge) => {
+            let auth = AuthAsk::Mutual(witness, challenge);
+            Ok(authenticate(auth, conn, interface, store, block, out))
+        }
     }
 }
 
@@ -124,7 +148,8 @@ fn dispatch<S: Store>(
     requires on { IsTrue (S.state store.old).power.on }
     requires empty { out.old.waiting ≡ [] }
     requires room { out.old.used ≡ 0 }
-    ensures { Executes S.put_cost (λ m. asked m (command_of command.entry))
+    ensures word { IfOk result (λ done. IsTrue (is_word_of command.entry.ins done.sw)) }
+    ensures executes { Executes S.put_cost (λ m. asked m (command_of command.entry))
         (λ m. replied m interface block.now (channel_of conn.old) (command_of command.entry)) block.now
         result out.new.waiting (channel_of conn.old) (channel_of conn.new) (S.state store.old) (S.state store.new) }
 {
@@ -157,8 +182,8 @@ pub fn execute<S: Store>(
         IsAnswered S.put_cost (asked m k) (replied m interface block.now (channel_of conn.old) k) block.now
         done out.new.waiting (channel_of conn.old) (channel_of conn.new) (S.state store.old) (S.state store.new)) }
 
-    // Whatever the store tells, the word is one of those of executed commands.
-    ensures word { IfOk result (λ done. IsTrue (is_answer_word done.sw)) }
+    // Whatever the store tells, the word is one of the instruction's.
+    ensures word { IfOk result (λ done. IsTrue (is_word_of command.entry.ins done.sw)) }
     ensures others { OnOk result (KeepsPower (S.state store.old).power (S.state store.new).power) }
 
     // Where power was lost, the store is one of the two memories of the call that lost it.

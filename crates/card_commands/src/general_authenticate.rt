@@ -3,21 +3,22 @@ ghost use Rattle.std.specs.Prelude.{◌≡◌, Bool, true, false, [], List, ℕ,
 ghost use Rattle.ber_tlv.specs.Elements.{elements_of};
 ghost use Rattle.piv_model.specs.declared.kinds.Interface.{Interface};
 ghost use Rattle.piv_model.specs.Commands.{command_of};
-ghost use Rattle.piv_rules.specs.AnswerWords.{is_answer_word};
 ghost use Rattle.piv_rules.specs.Answers.{rule_of, template_with};
 ghost use Rattle.piv_rules.specs.Asks.{key_named, auth_meant, authenticate_ask};
 ghost use Rattle.piv_rules.specs.Channels.{after_call};
 ghost use Rattle.piv_rules.specs.Forms.{fields_of};
 ghost use Rattle.auth_protocol.specs.Answered.{answered, left_by};
 ghost use Rattle.auth_protocol.specs.Keys.{keys_in};
-ghost use Rattle.card_commands.specs.Asking.{ask_of, auth_of, profile_by, IsMeet};
+ghost use Rattle.piv_rules.specs.Lent.{ask_of};
+ghost use Rattle.card_commands.specs.Asking.{auth_of, profile_by, IsMeet};
 ghost use Rattle.card_commands.specs.Connections.{channel_of};
 ghost use Rattle.card_commands.specs.Executes.{Replies};
+ghost use Rattle.card_commands.specs.Words.{is_auth_word};
 
 use crate::access::is_permitted;
-use crate::asked::{Asked, Traits};
 use crate::connection::Conn;
 use crate::executed::{Executed, only};
+use crate::traits::Traits;
 use auth_protocol::{AuthAsk, AuthOut, Exchange, StoreKeys, meaning};
 use piv_chaining::Pieces;
 use piv_model::status_words::{
@@ -25,6 +26,7 @@ use piv_model::status_words::{
 };
 use piv_model::{Command, Interface, KeyId, Rule, Store, use_rule};
 use piv_objects::auth_template;
+use piv_rules::Asked;
 
 // The references of the keys (SP 800-78-4).
 const CARD_MANAGEMENT_KEY: u8 = 0x9B;
@@ -63,6 +65,20 @@ fn auth_meant(key: KeyId, body: &[u8]) -> Option<AuthAsk>
     }
 }
 
+// What is asked of a key, among all that a command can ask.
+fn asked_for<'a>(auth: AuthAsk) -> Asked<'a>
+    ensures asks { ask_of result ≡ auth_of auth }
+    ensures meet { (global : Bool) → IsMeet global result }
+{
+    match auth {
+        AuthAsk::Internal(challenge) => Asked::Internal(challenge),
+        AuthAsk::Challenge => Asked::AskChallenge,
+        AuthAsk::External(response) => Asked::External(response),
+        AuthAsk::Witness => Asked::AskWitness,
+        AuthAsk::Mutual(witness, challenge) => Asked::Mutual(witness, challenge),
+    }
+}
+
 // What a GENERAL AUTHENTICATE asks.
 pub(crate) fn auth_asked<'a>(command: Command<'a>, traits: &Traits) -> Asked<'a>
     ensures asks { ask_of result ≡ authenticate_ask (profile_by traits.now) (command_of command.entry) }
@@ -72,7 +88,7 @@ pub(crate) fn auth_asked<'a>(command: Command<'a>, traits: &Traits) -> Asked<'a>
         None => Asked::Refused(INCORRECT_P1_P2),
         Some(key) => match auth_meant(key, command.body) {
             None => Asked::Refused(INCORRECT_DATA),
-            Some(auth) => Asked::Authenticate(auth),
+            Some(auth) => asked_for(auth),
         },
     }
 }
@@ -136,7 +152,7 @@ pub(crate) fn authenticate<S: Store>(
     requires piv { conn.old.piv ≡ true }
     requires room { out.old.used ≡ 0 }
     requires empty { out.old.waiting ≡ [] }
-    ensures word { IsTrue (is_answer_word result.sw) }
+    ensures word { IsTrue (is_auth_word result.sw) }
     ensures replies { Replies (auth_of asked) interface block.now result out.new.waiting
         (channel_of conn.old) (channel_of conn.new) (S.state store.now).mem }
 {

@@ -3,16 +3,16 @@ ghost use Rattle.std.specs.Prelude.{◌≡◌, Bool, true, IsTrue, [], Some, Lis
 ghost use Rattle.ber_tlv.specs.Elements.{elements_of};
 ghost use Rattle.piv_model.specs.Commands.{command_of};
 ghost use Rattle.piv_model.specs.Memory.{Memory};
-ghost use Rattle.piv_rules.specs.AnswerWords.{is_answer_word};
 ghost use Rattle.piv_rules.specs.Answers.{answer_to, situation};
 ghost use Rattle.piv_rules.specs.Asks.{Get, get_ask};
 ghost use Rattle.piv_rules.specs.Forms.{tag_named};
-ghost use Rattle.card_commands.specs.Asking.{ask_of, shown, IsMeet};
+ghost use Rattle.piv_rules.specs.Lent.{ask_of};
+ghost use Rattle.card_commands.specs.Asking.{shown, IsMeet};
 ghost use Rattle.card_commands.specs.Connections.{channel_of};
 ghost use Rattle.card_commands.specs.Executes.{Replies};
+ghost use Rattle.card_commands.specs.Words.{is_get_word};
 
 use crate::access::is_permitted;
-use crate::asked::Asked;
 use crate::connection::Conn;
 use crate::executed::{Executed, only};
 use ber_tlv::header;
@@ -22,6 +22,7 @@ use piv_model::status_words::{
 };
 use piv_model::{Command, Interface, ObjectId, Store, object_by_tag, read_rule};
 use piv_objects::tag_list;
+use piv_rules::Asked;
 
 // The tags in front of an object's value.
 const DISCOVERY: u32 = 0x7E;
@@ -66,7 +67,7 @@ fn give<S: Store>(
     requires piv { conn.now.piv ≡ true }
     requires room { out.old.used ≡ 0 }
     requires empty { out.old.waiting ≡ [] }
-    ensures word { IsTrue (is_answer_word result) }
+    ensures word { IsTrue (is_get_word result) }
     ensures replies { (m : Memory) (block : List ℕ) → (S.state store.now).mem ≡ Some m →
         answer_to (situation m interface block (channel_of conn.now)) (Get id)
         ≡ record { word = result; body = out.new.waiting } }
@@ -100,7 +101,7 @@ pub(crate) fn get<S: Store>(
     requires piv { conn.old.piv ≡ true }
     requires room { out.old.used ≡ 0 }
     requires empty { out.old.waiting ≡ [] }
-    ensures word { IsTrue (is_answer_word result.sw) }
+    ensures word { IsTrue (is_get_word result.sw) }
     ensures replies { (block : List ℕ) → Replies (Get id) interface block result out.new.waiting
         (channel_of conn.old) (channel_of conn.new) (S.state store.now).mem }
 {

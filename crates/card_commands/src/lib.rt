@@ -3,7 +3,6 @@
 #![tactic(auto)]
 
 mod access;
-mod asked;
 mod change_reference_data;
 mod comparison;
 mod connection;
@@ -11,6 +10,8 @@ mod executed;
 mod execution;
 mod general_authenticate;
 mod get_data;
+#[cfg(test)]
+mod history_tests;
 mod laws;
 mod put_data;
 mod recovery;
@@ -18,6 +19,7 @@ mod reset_retry_counter;
 mod select;
 #[cfg(test)]
 mod tests;
+mod traits;
 mod verify;
 
 pub use connection::Conn;
@@ -25,3 +27,4 @@ pub use executed::{Broken, Executed};
 pub use execution::execute;
 pub use laws::{losses_are_told, words_are_those_of_the_table};
 pub use recovery::took;
+pub use traits::Traits;

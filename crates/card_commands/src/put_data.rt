@@ -1,5 +1,5 @@
 // PUT DATA (SP 800-73-4 part 2).
-ghost use Rattle.std.specs.Prelude.{◌≡◌, ◌≢◌, ◌∷◌, Bool, true, IsTrue, IfSome, is_some, [], Some, None, List, ℕ, option_and_then, if◌then◌else◌};
+ghost use Rattle.std.specs.Prelude.{◌≡◌, ◌≢◌, ◌∷◌, Bool, true, IsTrue, IfOk, IfSome, is_some, [], Some, None, List, ℕ, option_and_then, if◌then◌else◌};
 ghost use Rattle.ber_tlv.specs.Elements.{elements_of};
 ghost use Rattle.piv_model.specs.Base.{Profile};
 ghost use Rattle.piv_model.specs.Commands.{command_of};
@@ -8,21 +8,24 @@ ghost use Rattle.piv_model.specs.Sound.{may_stand};
 ghost use Rattle.piv_rules.specs.Asks.{Put, formed, put_ask, put_asked};
 ghost use Rattle.piv_rules.specs.Answers.{answer_to, situation};
 ghost use Rattle.piv_rules.specs.Forms.{put_named, ObjectForm, DiscoveryForm};
-ghost use Rattle.card_commands.specs.Asking.{ask_of, profile_by, put_formed, IsApart, IsMeet};
+ghost use Rattle.piv_rules.specs.Lent.{ask_of};
+ghost use Rattle.card_commands.specs.Asking.{profile_by, put_formed, IsApart, IsMeet};
 ghost use Rattle.card_commands.specs.Carried.{Carries};
 ghost use Rattle.card_commands.specs.Connections.{channel_of};
 ghost use Rattle.card_commands.specs.Executes.{Executes};
+ghost use Rattle.card_commands.specs.Words.{is_put_word};
 
 use crate::access::is_permitted;
-use crate::asked::{Asked, Traits};
 use crate::connection::Conn;
 use crate::executed::{Broken, Executed, only};
+use crate::traits::Traits;
 use piv_model::status_words::{
     INCORRECT_DATA, INCORRECT_P1_P2, NOT_ENOUGH_MEMORY, NOT_FOUND, SECURITY_STATUS_NOT_SATISFIED,
     SUCCESS,
 };
 use piv_model::{Command, Interface, ObjectId, PutFault, Rule, Store, object_by_tag};
 use piv_objects::{PutFields, discovery, put_fields};
+use piv_rules::Asked;
 
 // What the data carry.
 fn put_parts(body: &[u8]) -> Option<PutFields<'_>>
@@ -122,7 +125,8 @@ pub(crate) fn place<S: Store>(
     requires on { IsTrue (S.state store.old).power.on }
     requires form { IfSome (S.state store.old).mem (λ m. IsTrue (may_stand (is_some m.global) id value.now)) }
     requires piv { conn.old.piv ≡ true }
-    ensures { (block : List ℕ) → let a = Put id value.now in
+    ensures word { IfOk result (λ done. IsTrue (is_put_word done.sw)) }
+    ensures executes { (block : List ℕ) → let a = Put id value.now in
         Executes S.put_cost (λ m. a) (λ m. answer_to (situation m interface block (channel_of conn.old)) a) block
         result [] (channel_of conn.old) (channel_of conn.new) (S.state store.old) (S.state store.new) }
 {

@@ -3,14 +3,16 @@ ghost use Rattle.std.specs.Prelude.{◌≡◌, ◌+◌, ◌==◌, ◌&&◌, is_s
 ghost use Rattle.piv_model.specs.Commands.{command_of};
 ghost use Rattle.piv_model.specs.Memory.{has, reference};
 ghost use Rattle.piv_rules.specs.Asks.{Put, Compare};
-ghost use Rattle.card_commands.specs.Asking.{ask_of, purpose_of, IsMeet};
+ghost use Rattle.piv_rules.specs.Lent.{ask_of, purpose_of};
+ghost use Rattle.card_commands.specs.Asking.{IsMeet};
 ghost use Rattle.card_commands.specs.Executes.{asked};
 ghost use Rattle.card_commands.specs.Tells.{tells, keeps_value};
 
-use crate::asked::{Asked, Purpose, Traits, traits_of};
 use crate::executed::Broken;
 use crate::execution::{SELECT, asked_by};
+use crate::traits::{Traits, traits_of};
 use piv_model::{Command, ObjectId, RefId, Store, Took};
+use piv_rules::{Asked, Purpose};
 
 // Whether a match leaves the value that is compared.
 fn keeps(candidate: &[u8; 8], purpose: Purpose) -> bool
@@ -24,7 +26,6 @@ fn keeps(candidate: &[u8; 8], purpose: Purpose) -> bool
 }
 
 // After a loss in the writes that spend a try.
-
 fn spent<S: Store>(store: &S, r: RefId, before: u8) -> Took
     requires on { IsTrue (S.state store.now).power.on }
     requires has { IfSome (S.state store.now).mem (λ m. IsTrue (has m r)) }
@@ -104,10 +105,15 @@ fn took_of<S: Store>(asked: Asked<'_>, traits: &Traits, store: &S, broken: Broke
         Asked::Compare(r, candidate, purpose) => { compared(store, r, &candidate, purpose, broken) }
         Asked::Put(id, value) => placed(store, id, value, broken),
         Asked::Refused(_) => Took::Nothing,
+        Asked::Select(_) => Took::Nothing,
         Asked::Get(_) => Took::Nothing,
         Asked::Logout(_) => Took::Nothing,
         Asked::Query(_) => Took::Nothing,
-        Asked::Authenticate(_) => Took::Nothing,
+        Asked::Internal(_) => Took::Nothing,
+        Asked::AskChallenge => Took::Nothing,
+        Asked::External(_) => Took::Nothing,
+        Asked::AskWitness => Took::Nothing,
+        Asked::Mutual(_, _) => Took::Nothing,
     }
 }
 

@@ -2,12 +2,13 @@
 ghost use Rattle.std.specs.Prelude.{◌≡◌, Bool};
 ghost use Rattle.piv_model.specs.Commands.{command_of};
 ghost use Rattle.piv_rules.specs.Asks.{unblock_ask};
-ghost use Rattle.card_commands.specs.Asking.{ask_of, IsMeet};
+ghost use Rattle.piv_rules.specs.Lent.{ask_of};
+ghost use Rattle.card_commands.specs.Asking.{IsMeet};
 
-use crate::asked::{Asked, Purpose};
 use piv_model::status_words::{INCORRECT_DATA, INCORRECT_P1_P2, REFERENCE_DATA_NOT_FOUND};
 use piv_model::{Command, RefId};
 use piv_references::read_unblock;
+use piv_rules::{Asked, Purpose};
 
 // What a RESET RETRY COUNTER asks: the PUK is compared, and a match gives the new PIN.
 pub(crate) fn unblock_asked<'a>(command: Command<'a>) -> Asked<'a>

@@ -3,11 +3,11 @@ ghost use Rattle.std.specs.Prelude.{◌≡◌, IsTrue, [], List, ℕ, IfErr, Mat
 ghost use Rattle.piv_model.specs.declared.kinds.Interface.{Interface};
 ghost use Rattle.piv_model.specs.Commands.{command_of};
 ghost use Rattle.piv_model.specs.Memory.{Memory};
-ghost use Rattle.piv_rules.specs.AnswerWords.{is_answer_word};
 ghost use Rattle.piv_rules.specs.Asks.{Select, Refused, select_ask};
 ghost use Rattle.piv_rules.specs.Answers.{select_reply, situation};
 ghost use Rattle.card_commands.specs.Connections.{channel_of};
 ghost use Rattle.card_commands.specs.Executes.{IsReply};
+ghost use Rattle.card_commands.specs.Words.{is_select_word};
 
 use crate::connection::Conn;
 use crate::executed::{Executed, only};
@@ -22,8 +22,8 @@ const TEMPLATE: [u8; 19] = [
 ];
 
 // The application that a SELECT names, or the word that refuses it.
-fn select_asked(command: Command<'_>) -> Result<Application, u16>
-    ensures word { IfErr result (λ word. IsTrue (is_answer_word word)) }
+pub(crate) fn select_asked(command: Command<'_>) -> Result<Application, u16>
+    ensures word { IfErr result (λ word. IsTrue (is_select_word word)) }
     ensures asks { MatchResult result
         (λ application. select_ask (command_of command.entry) ≡ Select application)
         (λ word. select_ask (command_of command.entry) ≡ Refused word) }
@@ -41,7 +41,7 @@ fn select_asked(command: Command<'_>) -> Result<Application, u16>
 pub(crate) fn select(command: Command<'_>, conn: &mut Conn, out: &mut Pieces) -> Executed
     requires room { out.old.used ≡ 0 }
     requires empty { out.old.waiting ≡ [] }
-    ensures word { IsTrue (is_answer_word result.sw) }
+    ensures word { IsTrue (is_select_word result.sw) }
     ensures replies { (m : Memory) (i : Interface) (block : List ℕ) → let a = select_ask (command_of command.entry) in
         IsReply a (select_reply (situation m i block (channel_of conn.old)) a) block
         result out.new.waiting (channel_of conn.old) (channel_of conn.new) }

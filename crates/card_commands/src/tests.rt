@@ -537,6 +537,7 @@ fn what_is_said_of_a_lost_command_is_what_its_memory_shows(rt: HostRuntime) -> R
     let same = "0024008010313233343536FFFF313233343536FFFF";
     let unblocking = "002C0080103132333435363738363534333231FFFF";
     let wrong_unblocking = "002C0080103030303030303030363534333231FFFF";
+    let change_of_puk = "002400811031323334353637383837363534333231";
     let (old, new) = (Leaves::Old, Leaves::New);
     for (command, first, leaves, said, left, login) in [
         ("wrong", 1, old, "Nothing", "63C3", "9000"),
@@ -551,6 +552,10 @@ fn what_is_said_of_a_lost_command_is_what_its_memory_shows(rt: HostRuntime) -> R
         (change, 3, new, "Done", "63C3", "63C2"),
         (same, 3, old, "Spent", "63C2", "9000"),
         (same, 3, new, "Nothing", "63C3", "9000"),
+        (change_of_puk, 1, old, "Nothing", "63C3", "9000"),
+        (change_of_puk, 1, new, "Spent", "63C3", "9000"),
+        (change_of_puk, 3, old, "Spent", "63C3", "9000"),
+        (change_of_puk, 3, new, "Done", "63C3", "9000"),
         (wrong_unblocking, 1, old, "Nothing", "63C3", "9000"),
         (wrong_unblocking, 1, new, "Spent", "63C3", "9000"),
         (unblocking, 3, old, "Spent", "63C3", "9000"),

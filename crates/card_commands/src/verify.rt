@@ -3,22 +3,24 @@ ghost use Rattle.std.specs.Prelude.{◌≡◌, Bool, true, [], List, ℕ, Some, 
 ghost use Rattle.piv_model.specs.declared.kinds.Interface.{Interface};
 ghost use Rattle.piv_model.specs.Commands.{command_of};
 ghost use Rattle.piv_model.specs.Memory.{Memory, has};
-ghost use Rattle.piv_rules.specs.AnswerWords.{is_answer_word};
 ghost use Rattle.piv_rules.specs.Asks.{Logout, Query, verified_reference, verify_form, verify_ask};
 ghost use Rattle.piv_rules.specs.Answers.{answer_to, situation};
-ghost use Rattle.card_commands.specs.Asking.{ask_of, profile_by, IsMeet, IsKept};
+ghost use Rattle.piv_rules.specs.Lent.{ask_of};
+ghost use Rattle.card_commands.specs.Asking.{profile_by, IsMeet, IsKept};
 ghost use Rattle.card_commands.specs.Connections.{channel_of};
 ghost use Rattle.card_commands.specs.Executes.{IsReply, Replies};
+ghost use Rattle.card_commands.specs.Words.{is_compare_word};
 
-use crate::asked::{Asked, Purpose, Traits};
 use crate::connection::Conn;
 use crate::executed::{Executed, only};
+use crate::traits::Traits;
 use piv_model::status_words::{
     INCORRECT_DATA, INCORRECT_P1_P2, REFERENCE_DATA_NOT_FOUND, SECURITY_STATUS_NOT_SATISFIED,
     SUCCESS, verification_failed,
 };
 use piv_model::{Command, Interface, RefId, Store};
 use piv_references::read_pin;
+use piv_rules::{Asked, Purpose};
 
 // The PIN that P2 names, the application's or the Global PIN of a card that has one.
 pub(crate) fn verified_reference(p2: u8, traits: &Traits) -> Option<RefId>
@@ -66,7 +68,7 @@ pub(crate) fn verify_asked<'a>(command: Command<'a>, traits: &Traits) -> Asked<'
 #[tactic(auto, unfolding(piv_rules::specs::Answers::answer_to))]
 pub(crate) fn log_out(r: RefId, conn: &mut Conn, interface: Interface) -> Executed
     requires piv { conn.old.piv ≡ true }
-    ensures word { IsTrue (is_answer_word result.sw) }
+    ensures word { IsTrue (is_compare_word result.sw) }
     ensures replies { (m : Memory) (block : List ℕ) → IsReply (Logout r)
         (answer_to (situation m interface block (channel_of conn.old)) (Logout r)) block
         result [] (channel_of conn.old) (channel_of conn.new) }
@@ -90,7 +92,7 @@ pub(crate) fn query<S: Store>(
     requires on { IsTrue (S.state store.now).power.on }
     requires has { IfSome (S.state store.now).mem (λ m. IsTrue (has m r)) }
     requires piv { conn.old.piv ≡ true }
-    ensures word { IsTrue (is_answer_word result.sw) }
+    ensures word { IsTrue (is_compare_word result.sw) }
     ensures replies { (block : List ℕ) → Replies (Query r) interface block result []
         (channel_of conn.old) (channel_of conn.new) (S.state store.now).mem }
 {

@@ -1,9 +1,9 @@
-use Rattle.std.proofs.Common.{◌≡◌, ◌∙◌, sym, ap, refl}
+use Rattle.std.proofs.Common.{◌∙◌, sym, ap}
 use Rattle.std.specs.Prelude.{option_map}
 use Rattle.std.specs.Option.{option_copied}
 use Rattle.piv_objects.specs.Templates.{fields_of}
 use Rattle.card_commands.specs.Asking.{auth_of}
-use Rattle.card_commands.proofs.AuthLemmas.{template-meant, template-none, template-sizes, meant-by}
+use Rattle.card_commands.proofs.AuthLemmas.{template-meant, template-none, meant-by}
 use Rattle.card_commands.proofs.general_authenticate.auth_meant.Goals as goal
 
 pub returns-in-Ok : goal.returns-in-Ok

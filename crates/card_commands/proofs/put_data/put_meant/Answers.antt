@@ -1,4 +1,4 @@
-use Rattle.std.proofs.Common.{◌≡◌, ◌∙◌, Option, Some, sym, ap}
+use Rattle.std.proofs.Common.{◌∙◌, Option, Some, sym, ap}
 use Rattle.std.specs.Prelude.{option_and_then}
 use Rattle.piv_rules.specs.Asks.{formed, put_asked}
 use Rattle.piv_rules.specs.Forms.{PutForm}

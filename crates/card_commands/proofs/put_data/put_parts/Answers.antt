@@ -1,4 +1,4 @@
-use Rattle.std.proofs.Common.{◌≡◌, ◌∙◌, refl, sym, ap, subst, rules}
+use Rattle.std.proofs.Common.{◌∙◌}
 use Rattle.card_commands.proofs.PutLemmas.{put-named, put-none, formed-lent}
 use Rattle.piv_objects.specs.Forms.{put_of}
 use Rattle.card_commands.proofs.put_data.put_parts.Goals as goal

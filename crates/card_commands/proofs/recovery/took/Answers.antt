@@ -1,7 +1,7 @@
 use Rattle.std.proofs.Common.{◌≡◌, rules}
 use Rattle.std.proofs.lemmas.Grind.{common_steps}
 use Rattle.piv_model.specs.Commands.{command_of}
-use Rattle.card_commands.specs.Asking.{ask_of}
+use Rattle.piv_rules.specs.Lent.{ask_of}
 use Rattle.card_commands.proofs.Sayings.{command-told, select-told}
 use Rattle.card_commands.proofs.recovery.took.Goals as goal
 

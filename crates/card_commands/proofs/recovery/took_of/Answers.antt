@@ -1,7 +1,6 @@
-use Rattle.std.proofs.Common.{refl, ap}
-use Rattle.piv_rules.specs.Asks.{Refused, Get, Put, Logout, Query, Compare}
-use Rattle.card_commands.specs.Asking.{ask_of, auth_of, purpose_of}
-use Rattle.card_commands.proofs.Dispatching.{auth-quiet}
+use Rattle.std.proofs.Common.{ap}
+use Rattle.piv_rules.specs.Asks.{Put, Compare}
+use Rattle.piv_rules.specs.Lent.{ask_of, purpose_of}
 use Rattle.card_commands.proofs.Sayings.{nothing-told, as-told}
 use Rattle.card_commands.proofs.recovery.took_of.Goals as goal
 
@@ -26,5 +25,20 @@ returns-in-Logout g c = nothing-told (g.S.Store.state c.args.store.now).mem (ask
 pub returns-in-Query : goal.returns-in-Query
 returns-in-Query g c = nothing-told (g.S.Store.state c.args.store.now).mem (ask_of c.args.asked) _ c.args.broken (ap ask_of c.in-Query.is) tt
 
-pub returns-in-Authenticate : goal.returns-in-Authenticate
-returns-in-Authenticate g c = nothing-told (g.S.Store.state c.args.store.now).mem (ask_of c.args.asked) _ c.args.broken (ap ask_of c.in-Authenticate.is) (auth-quiet _)
+pub returns-in-Select : goal.returns-in-Select
+returns-in-Select g c = nothing-told (g.S.Store.state c.args.store.now).mem (ask_of c.args.asked) _ c.args.broken (ap ask_of c.in-Select.is) tt
+
+pub returns-in-Internal : goal.returns-in-Internal
+returns-in-Internal g c = nothing-told (g.S.Store.state c.args.store.now).mem (ask_of c.args.asked) _ c.args.broken (ap ask_of c.in-Internal.is) tt
+
+pub returns-in-AskChallenge : goal.returns-in-AskChallenge
+returns-in-AskChallenge g c = nothing-told (g.S.Store.state c.args.store.now).mem (ask_of c.args.asked) _ c.args.broken (ap ask_of c.in-AskChallenge.is) tt
+
+pub returns-in-External : goal.returns-in-External
+returns-in-External g c = nothing-told (g.S.Store.state c.args.store.now).mem (ask_of c.args.asked) _ c.args.broken (ap ask_of c.in-External.is) tt
+
+pub returns-in-AskWitness : goal.returns-in-AskWitness
+returns-in-AskWitness g c = nothing-told (g.S.Store.state c.args.store.now).mem (ask_of c.args.asked) _ c.args.broken (ap ask_of c.in-AskWitness.is) tt
+
+pub returns-in-Mutual : goal.returns-in-Mutual
+returns-in-Mutual g c = nothing-told (g.S.Store.state c.args.store.now).mem (ask_of c.args.asked) _ c.args.broken (ap ask_of c.in-Mutual.is) tt

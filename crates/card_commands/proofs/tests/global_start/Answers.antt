@@ -1,5 +1,5 @@
 -- The plain card is one that a card can be with a Global PIN, too.
-use Rattle.std.proofs.Common.{◌≡◌, refl, subst, sym, IsTrue, Option, Some, ◌∷◌, []}
+use Rattle.std.proofs.Common.{refl, subst, sym, IsTrue, Some, ◌∷◌, []}
 use Rattle.piv_model.specs.declared.kinds.RefId.{RefId}
 use Rattle.piv_model.specs.declared.kinds.RefId.TheVariants.{Pin, Puk, GlobalPin}
 use Rattle.piv_model.specs.Forms.{is_pin, is_secret, is_discovery}
