@@ -1,3 +1,10 @@
-pub mod Channels
-pub mod Serves
+pub mod Kept
+pub mod Exchanges
+pub mod Outcomes
+pub mod Acts
+pub mod Flights
+pub mod Held
+pub mod Plans
 pub mod Stands
+pub mod After
+pub mod Left

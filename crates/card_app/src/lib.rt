@@ -1,12 +1,10 @@
-//! The card: what it keeps of its connection, and one exchange of an APDU (SP 800-73-4 part 2).
+//! The card: sixteen connections over a store, with chains of commands, pieces of replies, and losses of power within
+//! any write (SP 800-73-4 part 2; ISO/IEC 7816-4).
 #![tactic(auto)]
 
-mod buffer;
 mod card;
-mod channel;
-mod commands;
-mod get_data;
-mod select;
+mod exchanging;
+mod slot;
 #[cfg(test)]
 mod tests;
 

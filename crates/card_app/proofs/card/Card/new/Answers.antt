@@ -1,9 +1,13 @@
-use Rattle.std.proofs.Common.{refl}
-use Rattle.card_app.proofs.StandsLemmas.{stands-new}
+use Rattle.card_app.proofs.SlotLaws.{free-among, free-apart}
+use Rattle.card_app.proofs.CardLaws.{card-new}
+use Rattle.std.proofs.Common.{◌∙◌}
+use Rattle.card_app.proofs.HeldLaws.{among-some}
 use Rattle.card_app.proofs.card.Card.new.Goals as goal
 
--- the store's memory is one that a card can have, so it has an object, present or absent, at each of the 33 places
 pub returns-clause-stands : goal.returns-clause-stands
-returns-clause-stands g c B serves memory =
+returns-clause-stands g c B memory =
     let sound = rw memory at (g.met.S.Store.sound c.args.store) in
-    stands-new g.S.Store.state _ B serves sound.places memory c.requires refl
+    card-new _ B sound.places c.requires memory (free-among _ c.in-Ok.ensures.free) (free-apart _ c.in-Ok.ensures.free)
+
+pub returns-clause-numbers : goal.returns-clause-numbers
+returns-clause-numbers g c d = among-some c.in-Ok.slots.items d ∙ free-among c.in-Ok.slots.items c.in-Ok.ensures.free d
