@@ -1,0 +1,11 @@
+pub mod FoundLaws
+pub mod KeptLaws
+pub mod LockLaws
+pub mod NotedLaws
+pub mod LossTies
+pub mod OpenLaws
+pub mod AskLaws
+pub mod CountLaws
+pub mod TurnLaws
+pub mod ExchangeLaws
+pub mod HoldLaws

@@ -1,0 +1,9 @@
+pub mod Kept
+pub mod Opened
+pub mod Counts
+pub mod Tally
+pub mod Exchanged
+pub mod Losses
+pub mod Epochs
+pub mod Cells
+pub mod Holds
