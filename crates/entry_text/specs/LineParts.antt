@@ -32,3 +32,7 @@ body_line front (b ∷ body) = front ++ 32 ∷ encode_upper (b ∷ body) ++ 10 �
 
 abbrev pub reply_line : List ℕ → List ℕ → ℕ → List ℕ
 reply_line front body sw = front ++ 32 ∷ bytes_text body ++ 32 ∷ status_text sw ++ 10 ∷ []
+
+-- a line of a word and a number
+abbrev pub number_line : List ℕ → ℕ → List ℕ
+number_line word number = word ++ 32 ∷ decimal number ++ 10 ∷ []

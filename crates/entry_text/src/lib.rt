@@ -8,4 +8,4 @@ mod short_text;
 #[cfg(test)]
 mod tests;
 
-pub use printing::{print_answer, print_history};
+pub use printing::{print_answer, print_history, print_number};

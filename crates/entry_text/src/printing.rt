@@ -1,15 +1,15 @@
 // Writing texts to a sink.
-ghost use Rattle.std.specs.Prelude.{OnOk};
+ghost use Rattle.std.specs.Prelude.{◌≡◌, ◌≤◌, length, OnOk};
 ghost use Rattle.hex.specs.Hex.{encode_upper};
 ghost use Rattle.piv_model.specs.Entries.{entry_of};
 ghost use Rattle.entry_text.specs.EntryTexts.{IsEntry, IsHistoryText, entry_line, history_text};
-ghost use Rattle.entry_text.specs.LineParts.{line_text};
+ghost use Rattle.entry_text.specs.LineParts.{line_text, number_line};
 ghost use Rattle.entry_text.specs.AnswerTexts.{answer_line};
 ghost use Rattle.piv_ports.specs.Writes.{Writes};
 
 use crate::answer_parts::answer_parts;
 use crate::entry_parts::{Parts, entry_parts};
-use crate::short_text::{ShortText, put_bytes};
+use crate::short_text::{ShortText, first_word, put_bytes, put_decimal};
 use piv_model::{ApiAnswer, Entry, History};
 use piv_ports::{Sink, WriteStop, write_all};
 
@@ -61,4 +61,24 @@ pub fn print_history<K: Sink>(h: &History, sink: &mut K) -> Result<(), WriteStop
         print_entry(h.entry(k), sink)?;
     }
     Ok(())
+}
+
+#[tactic(auto, using(crate::proofs::DecimalSteps::twenty_digits))]
+fn number_text(word: &str, number: u64) -> ShortText
+    requires { length word.now ≤ 12 }
+    ensures { result.items ≡ number_line word.now number }
+{
+    let mut line = first_word(word);
+    line.push(b' ');
+    put_decimal(&mut line, number);
+    line.push(b'\n');
+    line
+}
+
+/// Prints a line of a word, which has at most 12 letters, and a number.
+pub fn print_number<K: Sink>(word: &str, number: u64, sink: &mut K) -> Result<(), WriteStop>
+    requires { length word.now ≤ 12 }
+    ensures { Writes K.taken K.flushed K.faults (number_line word.now number) sink.old sink.new result }
+{
+    write_all(sink, &number_text(word, number))
 }

@@ -1,1 +1,1 @@
-mod LineLaws
+pub mod LineLaws

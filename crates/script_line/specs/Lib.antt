@@ -1,3 +1,4 @@
 pub mod Lines
 pub mod LineReading
+pub mod Playable
 pub mod Scripts

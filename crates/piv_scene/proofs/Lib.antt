@@ -1,0 +1,7 @@
+mod Stops
+mod RawLoop
+mod LimitLoops
+mod SizeLaws
+mod LinesSound
+mod SceneSound
+mod GeneratedLaws

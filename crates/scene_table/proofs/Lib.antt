@@ -1,0 +1,3 @@
+pub mod EachAfter
+mod DocumentLaws
+pub mod NameLaws
