@@ -1,0 +1,12 @@
+pub mod Laws
+pub mod Tags
+pub mod Stepping
+pub mod Falling
+pub mod Making
+pub mod Starting
+pub mod PlayerSteps
+pub mod OneCard
+pub mod Full
+pub mod Going
+pub mod LineLaws
+pub mod CardLaws

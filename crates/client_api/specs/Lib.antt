@@ -1,0 +1,13 @@
+pub mod Calls
+pub mod Answers
+pub mod Ports
+pub mod Machine
+pub mod Steps
+pub mod States
+pub mod Readers
+pub mod Makers
+pub mod Playing
+pub mod Players
+pub mod Held
+pub mod Whole
+pub mod Laws

@@ -1,0 +1,10 @@
+pub mod Listed
+pub mod Going
+pub mod AloneSteps
+pub mod Rounds
+pub mod Counting
+pub mod Sharing
+pub mod Made
+pub mod Whole
+pub mod Handles
+pub mod Filling

@@ -1,0 +1,23 @@
+use Rattle.std.proofs.Common.{◌≡◌, ℕ, ◌≤◌, List, length, ◌++◌}
+use Rattle.script_line.specs.declared.line.Line.{Line}
+use Rattle.script_runs.specs.Runs.{Run, rounds}
+use Rattle.script_runs.specs.Progress.{all_left, AllReady, GoesOn, PortAt, StandFor}
+use Rattle.script_runs.proofs.scheduled.rounds_to_end.Given as goal
+
+abbrev pub invariant-rounds : goal.invariant-rounds
+invariant-rounds g l = record {
+  many : length l.players.items ≡ length l.initial.players.items;
+  cards : g.P.Port.cards l.port ≡ g.P.Port.cards l.initial.port;
+  bases : g.P.Port.bases l.port ≡ g.P.Port.bases l.initial.port;
+  turns : (card : ℕ) → g.P.Port.turns l.port card ≡ g.P.Port.turns l.initial.port card;
+  seen : (card : ℕ) → g.P.Port.seen l.initial.port card ≤ g.P.Port.seen l.port card;
+  ready : AllReady (g.P.Port.cards l.port) l.players.items;
+  stands : (scripts : List (List Line)) (order : List ℕ) (run : Run)
+      → StandFor l.readers scripts order l.initial.players.items run
+      → PortAt (g.P.Port.stands l.initial.port) (g.P.Port.cards l.initial.port) (g.P.Port.seen l.initial.port) (g.P.Port.turns l.initial.port) run
+      → (times : ℕ) × GoesOn l.readers scripts (rounds (length scripts) times ++ order) l.players.items
+      (PortAt (g.P.Port.stands l.port) (g.P.Port.cards l.port) (g.P.Port.seen l.port) (g.P.Port.turns l.port));
+}
+
+abbrev pub decreases-rounds : goal.decreases-rounds
+decreases-rounds g l = all_left l.players.items
