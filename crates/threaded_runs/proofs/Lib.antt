@@ -1,0 +1,5 @@
+pub mod Mapped
+pub mod Dealt
+pub mod Played
+pub mod Owning
+pub mod Taking
