@@ -1,0 +1,15 @@
+//! The scheduled run of a scene: each card in a cell on a device, and the scripts step by step in the order of the
+//! schedule.
+#![tactic(auto)]
+
+mod laws;
+mod play;
+mod prepared;
+mod run_out;
+mod scene_run;
+#[cfg(test)]
+mod tests;
+
+pub use laws::runs_share_out;
+pub use run_out::RunOut;
+pub use scene_run::bench;

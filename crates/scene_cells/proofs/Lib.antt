@@ -1,0 +1,5 @@
+pub mod Places
+pub mod Lowering
+pub mod CellLaws
+pub mod Placing
+pub mod TurnSums

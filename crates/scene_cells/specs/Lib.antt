@@ -1,0 +1,4 @@
+pub mod Turns
+pub mod Cells
+pub mod Raised
+pub mod Lowered
