@@ -1,3 +1,9 @@
 pub mod TextLemmas
+pub mod DashLaws
+pub mod ExchangeLaws
 pub mod LineLemmas
+pub mod OneLoss
 pub mod OneOutput
+pub mod ServeLemmas
+pub mod SceneInput
+pub mod DeviceLaws

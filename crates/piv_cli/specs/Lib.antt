@@ -1,6 +1,11 @@
 pub mod Words
 pub mod Lines
+pub mod Devices
 pub mod Outputs
+pub mod Scenes
+pub mod Ends
 pub mod Sessions
 pub mod Statuses
+pub mod Hints
+pub mod Losses
 pub mod OutputLaws

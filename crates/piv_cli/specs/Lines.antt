@@ -5,11 +5,12 @@ use Rattle.std.specs.Str.Lines.{strip_carriage_return}
 use Rattle.hex.specs.Hex.{decode_of, encode_upper}
 use Rattle.hex.specs.declared.error.FromHexError.{FromHexError}
 use Rattle.piv_model.specs.declared.kinds.Interface.TheVariants.{Contact}
+use Rattle.std.specs.List.{list_any}
 use Rattle.piv_model.specs.Framing.{reply_bytes}
 use Rattle.piv_model.specs.Base.{Base}
 use Rattle.piv_rules.specs.Acts.{CardAnswer, Replied, Exchange, CardRecord, Records}
 use Rattle.piv_rules.specs.Turns.{IsTurned}
-use Rattle.card_app.specs.Stands.{opening}
+use Rattle.piv_rules.specs.StandsLaws.{opened_as}
 
 -- a byte that counts: no space and no tab
 abbrev pub counts : ℕ → Bool
@@ -33,7 +34,7 @@ abbrev pub text_line : List ℕ → Line
 text_line [] = Empty
 text_line (b ∷ text) = decoded_line (decode_of (b ∷ text))
 
--- a reply in upper case hexadecimal; an answer without a reply is a dash
+-- a reply in upper case hexadecimal; a card without power is mute, which is a dash
 abbrev pub spelled : CardAnswer → List ℕ
 spelled (Replied body word) = encode_upper (reply_bytes body word)
 spelled _ = 45 ∷ []
@@ -57,8 +58,12 @@ is_newline b = b == 10
 
 -- one shared connection is open on contact before the first line
 abbrev pub opened_first : Records
-opened_first = opening 1 0 Contact true ∷ []
+opened_first = opened_as [] Contact true ∷ []
 
--- a line ends with a line feed or with the input
-unfoldable pub AreLines : Base → List ℕ → List ℕ → Type 0
-AreLines B input out = (S : Records) × LinesWrite B opened_first (slice_split is_newline input) out S
+-- what an input's lines write, with the records of what was done; a line ends with a line feed or with the input
+unfoldable pub AreLines : Base → List ℕ → List ℕ → Records → Type 0
+AreLines B input out R = LinesWrite B opened_first (slice_split is_newline input) out R
+
+-- a line of the output is a dash: no other line has this byte
+abbrev pub has_dash : List ℕ → Bool
+has_dash out = list_any (λ b. b == 45) out

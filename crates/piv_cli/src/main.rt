@@ -1,15 +1,29 @@
 //! `piv`: a PIV card in software, over standard input and output.
 #![tactic(auto)]
 
+mod apdu;
+mod bench;
+mod devices;
 mod hexadecimal;
+mod hint;
+mod input;
 mod laws;
 mod lines;
+#[cfg(test)]
+mod long_tests;
+#[cfg(test)]
+mod loss_tests;
+mod make;
+mod output;
 mod program;
+#[cfg(test)]
+mod scene_tests;
 mod status;
 #[cfg(test)]
 mod tests;
 mod words;
 
+use crate::devices::blank_devices;
 use crate::program::plain;
 use crate::status::Status;
 use crate::words::Words;
@@ -30,9 +44,12 @@ fn main(rt: HostRuntime) -> ExitCode {
             return ended(&rt, Status::NoMemory);
         }
     }
+    let Ok(mut devices) = blank_devices(alloc) else {
+        return ended(&rt, Status::NoMemory);
+    };
     let mut source = StdSource::new(rt.reader());
     let mut sink = StdSink::new(io::writer(&rt));
-    let status = plain(alloc, &words, &mut source, &mut sink);
+    let status = plain(alloc, &words, &mut source, &mut sink, &mut devices);
     ended(&rt, status)
 }
 

@@ -1,20 +1,29 @@
 // What the program does, over any source and sink.
-ghost use Rattle.std.specs.Prelude.{◌≡◌, ◌≢◌, ◌≤◌, ◌<◌, ◌+◌, ◌⊎◌, ℕ, List, [], length, take, Some, None, IsTrue, IfOk, IfSome, OnOk};
+ghost use Rattle.std.specs.Prelude.{◌≡◌, ◌≢◌, ◌≤◌, ◌<◌, ◌+◌, ◌⊎◌, ℕ, List, length, take, Some, None, Ok, false, true, IfSome};
+ghost use Rattle.std.specs.List.{All};
 ghost use Rattle.piv_ports.specs.Ports.{IsFlushed, Rises, TakesAtMost, counted, with_bytes};
-ghost use Rattle.piv_ports.specs.Writes.{Writes};
-ghost use Rattle.piv_model.specs.PlainCard.{plain_memory};
-ghost use Rattle.piv_cli.specs.Outputs.{Answered, AnsweredInPart, most_input, reach};
-ghost use Rattle.piv_cli.specs.Words.{asked_for};
+ghost use Rattle.block_store.specs.Devices.{OthersStand};
+ghost use Rattle.piv_scene.specs.Outcomes.{outcome};
+ghost use Rattle.piv_scene.specs.SceneValues.{SceneValue};
+ghost use Rattle.piv_cli.specs.Devices.{AreReady, first_of};
+ghost use Rattle.piv_cli.specs.Ends.{CanServe, EndsBy, IsEnded, IsRefused, reach};
+ghost use Rattle.piv_cli.specs.Outputs.{Answered, Took, TookPart, most_input};
+ghost use Rattle.piv_cli.specs.Scenes.{BenchAnswered, IsSummary, LostDevice};
+ghost use Rattle.piv_cli.specs.Words.{asked_for, reads_input, uses_devices};
 
-use crate::lines::answer_lines;
+use crate::apdu::apdu;
+use crate::bench::bench;
+use crate::make::make;
+use crate::output::write_out;
 use crate::status::Status;
 use crate::words::{Request, Words};
-use memory_store::MemoryStore;
-use piv_model::{Limit, NoMemory, Store, plain_start};
-use piv_ports::{Failed, ReadStop, Sink, Source, WriteStop, read_all, write_all};
+use nvm_device::Nvm;
+use piv_model::{Limit, Where};
+use piv_ports::{Sink, Source};
 use std::alloc::Global;
 
-const MOST_INPUT: usize = 8_388_608;
+/// The most bytes of an input.
+pub const MOST_INPUT: usize = 8_388_608;
 
 /// How the program is used.
 pub const HELP: &str = "\
@@ -23,6 +32,13 @@ usage: piv COMMAND
   apdu         read command APDUs from standard input, one line of hexadecimal each,
                and write each reply
                piv apdu < examples/select.hex
+  bench        read a scene from standard input, run its scripts in the order of its
+               schedule, and write each answer and the history of each card
+               piv bench < examples/scenes/two_scripts.toml
+  make N NUMBER
+               run a scene of N lines, 1 to 4000, that are chosen by NUMBER, and write
+               how many lines, entries and calls there were
+               piv make 100 7
   --help       write this text
   --version    write the version
 ";
@@ -30,16 +46,28 @@ usage: piv COMMAND
 /// Which version it is.
 pub const VERSION: &str = "piv 0.1.0\n";
 
-/// Does what the words say.
-pub fn plain<S: Source, K: Sink>(
+/// Does what the words say. `apdu` personalises device 0 as the plain card and runs on it; `bench` and `make` personalise
+/// a device for each card of their scene, the first for the first one.
+pub fn plain<S: Source, K: Sink, N: Nvm + Drop>(
     alloc: Global,
     words: &Words,
     source: &mut S,
     sink: &mut K,
+    devices: &mut Vec<N>,
 ) -> Status
-    // What was read and written where all was done.
-    ensures apdu { result ≡ Status.Done → asked_for words.now ≡ Some Request.Apdu
-        → Answered (S.left source.old) (S.left source.new) (K.taken sink.old) (K.taken sink.new) }
+    requires { AreReady N.state devices.old.items }
+
+    // What was read and written where all was done, and what the devices hold.
+    ensures apdu { result ≡ Status.Done → asked_for words.now ≡ Some Request.Apdu → (out : List ℕ)
+        × Answered (S.left source.old) (S.left source.new)
+        (first_of N.state devices.old.items) (first_of N.state devices.new.items) out
+        × Took (K.taken sink.old) (K.taken sink.new) out }
+    ensures bench { result ≡ Status.Done → asked_for words.now ≡ Some Request.Bench → (out : List ℕ)
+        × BenchAnswered (S.left source.old) (S.left source.new) N.state devices.old.items devices.new.items out
+        × Took (K.taken sink.old) (K.taken sink.new) out }
+    ensures make { (n number : ℕ) → result ≡ Status.Done → asked_for words.now ≡ Some (Request.Make n number)
+        → (out : List ℕ) × IsSummary N.state n number devices.old.items devices.new.items out
+        × Took (K.taken sink.old) (K.taken sink.new) out }
     ensures help { result ≡ Status.Done → asked_for words.now ≡ Some Request.Help
         → K.taken sink.new ≡ with_bytes (K.taken sink.old) HELP.now }
     ensures version { result ≡ Status.Done → asked_for words.now ≡ Some Request.Version
@@ -47,8 +75,17 @@ pub fn plain<S: Source, K: Sink>(
     ensures flushed { result ≡ Status.Done → IsFlushed (K.taken sink.new) (K.flushed sink.new) }
 
     // What was read and written where a write failed.
-    ensures prefix { result ≡ Status.WriteFault → asked_for words.now ≡ Some Request.Apdu
-        → AnsweredInPart (S.left source.old) (S.left source.new) (K.taken sink.old) (K.taken sink.new) }
+    ensures prefix { result ≡ Status.WriteFault → asked_for words.now ≡ Some Request.Apdu → (out : List ℕ)
+        × Answered (S.left source.old) (S.left source.new)
+        (first_of N.state devices.old.items) (first_of N.state devices.new.items) out
+        × TookPart (K.taken sink.old) (K.taken sink.new) out }
+    ensures prefix_of_bench { result ≡ Status.WriteFault → asked_for words.now ≡ Some Request.Bench → (out : List ℕ)
+        × BenchAnswered (S.left source.old) (S.left source.new) N.state devices.old.items devices.new.items out
+        × TookPart (K.taken sink.old) (K.taken sink.new) out }
+    ensures prefix_of_make { (n number : ℕ) → result ≡ Status.WriteFault
+        → asked_for words.now ≡ Some (Request.Make n number)
+        → (out : List ℕ) × IsSummary N.state n number devices.old.items devices.new.items out
+        × TookPart (K.taken sink.old) (K.taken sink.new) out }
     ensures prefix_of_help { result ≡ Status.WriteFault → asked_for words.now ≡ Some Request.Help
         → (n : ℕ) × (K.taken sink.new ≡ with_bytes (K.taken sink.old) (take n HELP.now)) }
     ensures prefix_of_version { result ≡ Status.WriteFault → asked_for words.now ≡ Some Request.Version
@@ -56,130 +93,65 @@ pub fn plain<S: Source, K: Sink>(
 
     // What else is read and written.
     ensures untouched { result ≢ Status.Done → result ≢ Status.WriteFault → sink.new ≡ sink.old }
-    ensures unread { asked_for words.now ≢ Some Request.Apdu → source.new ≡ source.old }
-    ensures taken { asked_for words.now ≡ Some Request.Apdu → TakesAtMost (reach result)
+    ensures unread { reads_input (asked_for words.now) ≡ false → source.new ≡ source.old }
+    ensures taken { reads_input (asked_for words.now) ≡ true → TakesAtMost (reach result)
         (S.left source.old) (S.left source.new) (S.given source.old) (S.given source.new) }
+
+    // What becomes of the devices.
+    ensures others { asked_for words.now ≢ Some Request.Bench → OthersStand 1 devices.old.items devices.new.items }
+    ensures others_of_bench { (input : List ℕ) (scene : SceneValue) → asked_for words.now ≡ Some Request.Bench
+        → S.left source.old ≡ Some input → outcome input ≡ Ok scene
+        → OthersStand (length scene.cards) devices.old.items devices.new.items }
+    ensures beyond_eight { OthersStand 8 devices.old.items devices.new.items }
+    ensures sizes { All (λ device. 1114112 ≤ (N.state device).size) devices.new.items }
+    ensures unused { uses_devices (asked_for words.now) ≡ false → devices.new ≡ devices.old }
+    ensures unused_unread { (result ≡ Status.ReadFault) ⊎ IsRefused result → devices.new ≡ devices.old }
 
     // Each other status has its cause.
     ensures usage { result ≡ Status.Usage → asked_for words.now ≡ None }
     ensures usage_only { asked_for words.now ≡ None → result ≡ Status.Usage }
+    ensures scene { asked_for words.now ≡ Some Request.Bench
+        → IfSome (S.left source.old) (λ input. EndsBy result (outcome input)) }
+    ensures scene_only { (at : Where) → result ≡ Status.BadScene at → asked_for words.now ≡ Some Request.Bench }
     ensures too_large { result ≡ Status.TooLarge Limit.Input
         → IfSome (S.left source.old) (λ input. most_input < length input) }
     ensures too_large_count { result ≡ Status.TooLarge Limit.Input
         → S.given source.new ≡ counted (S.given source.old) (most_input + 1) }
-    ensures input_only { (what : Limit) → result ≡ Status.TooLarge what → what ≡ Limit.Input }
+    ensures input_only { (what : Limit) → result ≡ Status.TooLarge what
+        → (what ≡ Limit.Input) ⊎ (asked_for words.now ≡ Some Request.Bench) }
     ensures small { asked_for words.now ≡ Some Request.Apdu → (result ≡ Status.Done) ⊎ (result ≡ Status.WriteFault)
         → IfSome (S.left source.old) (λ input. length input ≤ most_input) }
     ensures read_fault { result ≡ Status.ReadFault → Rises (S.faults source.old) (S.faults source.new) }
     ensures no_read_fault { result ≢ Status.ReadFault → S.faults source.new ≡ S.faults source.old }
     ensures write_fault { result ≡ Status.WriteFault → Rises (K.faults sink.old) (K.faults sink.new) }
     ensures no_write_fault { result ≢ Status.WriteFault → K.faults sink.new ≡ K.faults sink.old }
+    ensures device_fault { result ≡ Status.DeviceFault → LostDevice (S.left source.old) (asked_for words.now)
+        N.state devices.old.items devices.new.items }
 
     // A text is written, or the sink failed.
-    ensures texts_end { (request : Request) → asked_for words.now ≡ Some request → request ≢ Request.Apdu
+    ensures texts_end { (request : Request) → asked_for words.now ≡ Some request → uses_devices (Some request) ≡ false
         → (result ≡ Status.Done) ⊎ (result ≡ Status.WriteFault) }
 
-    // A command over an input that isn't too large, with ends that don't fail, is done if memory suffices; over a
-    // source that tells nothing, if fewer bytes were given than are too many.
+    // A command over an input that it can serve, with ends that don't fail, is done if memory suffices and no device fails
+    // while it is personalised; over a source that tells nothing, `apdu` is if fewer bytes were given than are too many.
     ensures complete { (request : Request) (input : List ℕ) → asked_for words.now ≡ Some request
-        → S.left source.old ≡ Some input → length input ≤ most_input
+        → S.left source.old ≡ Some input → CanServe request input
         → ¬ (Rises (S.faults source.old) (S.faults source.new)) → ¬ (Rises (K.faults sink.old) (K.faults sink.new))
-        → (result ≡ Status.Done) ⊎ (result ≡ Status.NoMemory) }
-    ensures complete_count { (request : Request) → asked_for words.now ≡ Some request
+        → IsEnded result }
+    ensures complete_count { (request : Request) → asked_for words.now ≡ Some request → request ≢ Request.Bench
         → S.given source.new < counted (S.given source.old) (most_input + 1)
         → ¬ (Rises (S.faults source.old) (S.faults source.new)) → ¬ (Rises (K.faults sink.old) (K.faults sink.new))
-        → (result ≡ Status.Done) ⊎ (result ≡ Status.NoMemory) }
+        → IsEnded result }
     ensures ends { (request : Request) → asked_for words.now ≡ Some request
         → ¬ (Rises (S.faults source.old) (S.faults source.new)) → ¬ (Rises (K.faults sink.old) (K.faults sink.new))
-        → (result ≡ Status.Done) ⊎ (result ≡ Status.NoMemory) ⊎ (result ≡ Status.TooLarge Limit.Input) }
+        → IsEnded result ⊎ IsRefused result }
 {
     match words.request() {
         None => Status::Usage,
         Some(Request::Help) => write_out(sink, HELP.as_bytes()),
         Some(Request::Version) => write_out(sink, VERSION.as_bytes()),
-        Some(Request::Apdu) => apdu(alloc, source, sink),
-    }
-}
-
-// Writes all of this, and flushes it.
-fn write_flushed<K: Sink>(sink: &mut K, bytes: &[u8]) -> Result<(), WriteStop>
-    ensures written { Writes K.taken K.flushed K.faults bytes.now sink.old sink.new result }
-    ensures flushed { OnOk result (IsFlushed (K.taken sink.new) (K.flushed sink.new)) }
-{
-    write_all(sink, bytes)?;
-    match sink.flush() {
-        Ok(()) => Ok(()),
-        Err(Failed) => Err(WriteStop::Failed),
-    }
-}
-
-// The same, as the end of the program.
-fn write_out<K: Sink>(sink: &mut K, bytes: &[u8]) -> Status
-    ensures done { result ≡ Status.Done → K.taken sink.new ≡ with_bytes (K.taken sink.old) bytes.now }
-    ensures flushed { result ≡ Status.Done → IsFlushed (K.taken sink.new) (K.flushed sink.new) }
-    ensures no_fault { result ≡ Status.Done → K.faults sink.new ≡ K.faults sink.old }
-    ensures fault { result ≡ Status.WriteFault → Rises (K.faults sink.old) (K.faults sink.new) }
-    ensures prefix { (n : ℕ) × (K.taken sink.new ≡ with_bytes (K.taken sink.old) (take n bytes.now)) }
-    ensures no_other { (result ≡ Status.Done) ⊎ (result ≡ Status.WriteFault) }
-{
-    match write_flushed(sink, bytes) {
-        Ok(()) => Status::Done,
-        Err(WriteStop::Failed) => Status::WriteFault,
-    }
-}
-
-// The store of the plain card, which never loses power.
-fn plain_store(alloc: Global) -> Result<MemoryStore, NoMemory>
-    ensures on { IfOk result (λ store. IsTrue (⟦<MemoryStore as Store>⟧.state store).power.on) }
-    ensures memory { IfOk result (λ store. (⟦<MemoryStore as Store>⟧.state store).mem ≡ Some plain_memory) }
-    ensures never_lost { IfOk result (λ store. (⟦<MemoryStore as Store>⟧.state store).power.due ≡ Some []) }
-{
-    let start = plain_start(alloc)?;
-    MemoryStore::new(alloc, &start, Vec::new(alloc))
-}
-
-// Reads lines of APDUs, and writes what the plain card replies.
-fn apdu<S: Source, K: Sink>(alloc: Global, source: &mut S, sink: &mut K) -> Status
-    ensures done { result ≡ Status.Done
-        → Answered (S.left source.old) (S.left source.new) (K.taken sink.old) (K.taken sink.new) }
-    ensures flushed { result ≡ Status.Done → IsFlushed (K.taken sink.new) (K.flushed sink.new) }
-    ensures prefix { result ≡ Status.WriteFault
-        → AnsweredInPart (S.left source.old) (S.left source.new) (K.taken sink.old) (K.taken sink.new) }
-    ensures untouched { result ≢ Status.Done → result ≢ Status.WriteFault → sink.new ≡ sink.old }
-    ensures taken { TakesAtMost (reach result)
-        (S.left source.old) (S.left source.new) (S.given source.old) (S.given source.new) }
-    ensures usage { result ≢ Status.Usage }
-    ensures too_large { result ≡ Status.TooLarge Limit.Input
-        → IfSome (S.left source.old) (λ input. most_input < length input) }
-    ensures too_large_count { result ≡ Status.TooLarge Limit.Input
-        → S.given source.new ≡ counted (S.given source.old) (most_input + 1) }
-    ensures input_only { (what : Limit) → result ≡ Status.TooLarge what → what ≡ Limit.Input }
-    ensures small { (result ≡ Status.Done) ⊎ (result ≡ Status.WriteFault)
-        → IfSome (S.left source.old) (λ input. length input ≤ most_input) }
-    ensures read_fault { result ≡ Status.ReadFault → Rises (S.faults source.old) (S.faults source.new) }
-    ensures no_read_fault { result ≢ Status.ReadFault → S.faults source.new ≡ S.faults source.old }
-    ensures write_fault { result ≡ Status.WriteFault → Rises (K.faults sink.old) (K.faults sink.new) }
-    ensures no_write_fault { result ≢ Status.WriteFault → K.faults sink.new ≡ K.faults sink.old }
-    ensures complete { (input : List ℕ) → S.left source.old ≡ Some input → length input ≤ most_input
-        → ¬ (Rises (S.faults source.old) (S.faults source.new)) → ¬ (Rises (K.faults sink.old) (K.faults sink.new))
-        → (result ≡ Status.Done) ⊎ (result ≡ Status.NoMemory) }
-    ensures complete_count { S.given source.new < counted (S.given source.old) (most_input + 1)
-        → ¬ (Rises (S.faults source.old) (S.faults source.new)) → ¬ (Rises (K.faults sink.old) (K.faults sink.new))
-        → (result ≡ Status.Done) ⊎ (result ≡ Status.NoMemory) }
-    ensures ends { ¬ (Rises (S.faults source.old) (S.faults source.new)) → ¬ (Rises (K.faults sink.old) (K.faults sink.new))
-        → (result ≡ Status.Done) ⊎ (result ≡ Status.NoMemory) ⊎ (result ≡ Status.TooLarge Limit.Input) }
-{
-    let input = match read_all(alloc, source, MOST_INPUT) {
-        Ok(input) => input,
-        Err(ReadStop::Failed) => return Status::ReadFault,
-        Err(ReadStop::TooLarge) => return Status::TooLarge { what: Limit::Input },
-        Err(ReadStop::NoMemory) => return Status::NoMemory,
-    };
-    let Ok(store) = plain_store(alloc) else {
-        return Status::NoMemory;
-    };
-    match answer_lines(alloc, store, &input) {
-        Ok(output) => write_out(sink, &output),
-        Err(_) => Status::NoMemory,
+        Some(Request::Apdu) => apdu(alloc, source, sink, devices),
+        Some(Request::Bench) => bench(alloc, source, sink, devices),
+        Some(Request::Make { n, number }) => make(alloc, n, number, sink, devices),
     }
 }

@@ -1,7 +1,8 @@
+use crate::devices::blank_devices;
 use crate::program::{HELP, VERSION, plain};
 use crate::status::Status;
-use crate::words::Words;
-use piv_model::Limit;
+use crate::words::{Request, Words};
+use piv_model::{Limit, Where};
 use piv_ports::{MemSink, MemSource};
 use std::alloc::Global;
 use std::test::Fail;
@@ -24,7 +25,8 @@ fn run(
     }
     let mut source = MemSource::new(input.to_vec(alloc)?, reads.to_vec(alloc)?);
     let mut sink = MemSink::new(alloc, room, 7, Vec::new(alloc))?;
-    let status = plain(alloc, &given, &mut source, &mut sink);
+    let mut devices = blank_devices(alloc)?;
+    let status = plain(alloc, &given, &mut source, &mut sink, &mut devices);
     Ok((status, sink.taken().to_vec(alloc)?))
 }
 
@@ -86,6 +88,60 @@ fn an_end_that_fails_is_told(rt: HostRuntime) -> Result<(), Fail> {
 }
 
 #[test]
+fn words_are_a_command_with_its_numbers(rt: HostRuntime) -> Result<(), Fail> {
+    let alloc = rt.alloc();
+    let most = u64::MAX;
+    let cases: [(&[&str], Option<Request>); 13] = [
+        (&["apdu"], Some(Request::Apdu)),
+        (&["bench"], Some(Request::Bench)),
+        (&["make", "1", "0"], Some(Request::Make { n: 1, number: 0 })),
+        (
+            &["make", "4000", "18446744073709551615"],
+            Some(Request::Make {
+                n: 4000,
+                number: most,
+            }),
+        ),
+        (&["make", "0", "0"], None),
+        (&["make", "4001", "0"], None),
+        (&["make", "01", "0"], None),
+        (&["make", "+1", "0"], None),
+        (&["make", "1", "18446744073709551616"], None),
+        (&["make", "1", "-1"], None),
+        (&["make", "1", ""], None),
+        (&["make", "1"], None),
+        (&["bench", "1", "0"], None),
+    ];
+    for (words, wanted) in cases {
+        let mut given = Words::new(alloc);
+        for word in words {
+            given.push(word)?;
+        }
+        assert_eq!(rt; given.request(), wanted);
+    }
+    Ok(())
+}
+
+#[test]
+fn a_hint_says_where(rt: HostRuntime) -> Result<(), Fail> {
+    let cases = [
+        (Where::NotToml, "the bytes are no TOML"),
+        (Where::Cards, "cards"),
+        (Where::Card(0), "card 0"),
+        (Where::Script(1), "script 1"),
+        (Where::Line(1, 3), "script 1, line 3"),
+        (Where::Schedule, "schedule"),
+    ];
+    for (at, text) in cases {
+        let Some(hint) = (Status::BadScene { at }).hint() else {
+            return Err(Fail::from("no hint"));
+        };
+        assert_eq!(rt; format!(in rt.alloc(); "{hint}")?.as_str(), text);
+    }
+    Ok(())
+}
+
+#[test]
 fn words_that_are_no_command_are_refused(rt: HostRuntime) -> Result<(), Fail> {
     let alloc = rt.alloc();
     for words in [
@@ -131,7 +187,8 @@ fn want_of_memory_writes_nothing(rt: HostRuntime) -> Result<(), Fail> {
     words.push("apdu")?;
     let mut source = MemSource::new(SELECT.as_bytes().to_vec(alloc)?, Vec::new(alloc));
     let mut sink = MemSink::new(alloc, 100, 100, Vec::new(alloc))?;
-    let status = plain(alloc, &words, &mut source, &mut sink);
+    let mut devices = blank_devices(alloc)?;
+    let status = plain(alloc, &words, &mut source, &mut sink, &mut devices);
     match status {
         Status::Done => assert_eq!(rt; sink.taken(), TEMPLATE.as_bytes()),
         _ => {

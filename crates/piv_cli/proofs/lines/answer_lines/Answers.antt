@@ -1,35 +1,11 @@
-use Rattle.std.proofs.Common.{◌≡◌, [], refl, true, arith}
-use Rattle.piv_cli.specs.Lines.{AreLines, opened_first}
-use Rattle.piv_cli.proofs.LineLemmas.{lines-more, lines-last}
+use Rattle.std.proofs.Common.{[], refl, true, sym, ap, ◌∙◌}
+use Rattle.piv_cli.proofs.LineLemmas.{begins, lines-leave}
 use Rattle.piv_cli.proofs.lines.answer_lines.Goals as goal
 
-pub lines-init : goal.lines-init
-lines-init g c =
-    let granted : c.attach.result ≡ true = c.attach.ensures.free c.in-Ok.ensures.free in
-    record {
-      ready = c.attach.ensures.ready granted c.in-Ok.ensures.on;
-      so_far = λ B serves memory. (
-        opened_first,
-        record { stands = c.attach.ensures.stands granted B [] true (c.in-Ok.ensures.stands B serves memory) refl; fresh = omega arith },
-        λ more end writes. rw c.new-out.ensures.items writes,
-      );
-    }
-
-pub lines-preserved : goal.lines-preserved
-lines-preserved g c = record {
-  ready = c.in_ok-answer_line-in-Some.ensures.ready;
-  so_far = λ B serves memory.
-      let before = c.lines.invariant.so_far B serves memory in
-      let answers = c.in_ok-answer_line-in-Some.ensures.answered B before.0 before.1 in (
-        answers.after,
-        answers.stands,
-        lines-more g.S.Store.state B before.0 opened_first _ _ _ _ _ _ _ c.in-Some.ensures.first answers before.2,
-      );
-}
-
-pub returns-in-None : goal.returns-in-None
-unfolding AreLines
-returns-in-None g c B serves memory =
-    let before = c.lines.invariant.so_far B serves memory in
-    let answers = c.in_ok-answer_line-in-None.ensures.answered B before.0 before.1 in
-    (answers.after, lines-last g.S.Store.state B before.0 opened_first _ _ _ _ _ _ c.in-None.ensures.one answers before.2)
+pub returns-clause-answered : goal.returns-clause-answered
+returns-clause-answered g c B random memory =
+    let powered = ap (λ s. (g.S.Store.state s).power.on) c.in-Ok.ensures.same ∙ c.requires.on in
+    lines-leave B c.args.input.now c.attach.new.self _ _ _ (λ out. out.items) c.answer_each-answered.result c.into_store.ensures.same
+    (ap g.S.Store.state (sym (c.attach.ensures.store ∙ c.in-Ok.ensures.same))) c.into_store.ensures.memory c.into_store.ensures.off
+    (c.answer_each-answered.ensures.answered B (begins B c.in-Ok.card _ _ c.args.random c.attach.result random c.attach.ensures.full c.in-Ok.ensures.count
+    (λ granted. c.attach.ensures.opened granted B [] true (c.in-Ok.ensures.stands B memory) powered refl refl) c.new-blocks.ensures))
