@@ -13,28 +13,12 @@ use Rattle.piv_rules.specs.Lookback.{some_entry}
 use Rattle.piv_rules.specs.Legal.{IsLegal, IsAllowed, opened_count, open_among, open_ones, is_opening, is_locked}
 use Rattle.piv_rules.specs.NumberLaws.{is_listed}
 use Rattle.piv_rules.specs.HistoryLaws.{none_since}
-use Rattle.piv_rules.proofs.Numbers.{unused-above}
+use Rattle.piv_rules.proofs.Numbers.{opened_count-opened, unused-above}
 use Rattle.piv_rules.proofs.Counting.{open-within}
 use Rattle.history_laws.specs.OpenLaws.{WasOpened, OpenWereOpened, OpenAreListed, AtMostSixteenAreOpen, ExclusiveAreAlone, NumbersAreUsedOnce, is_entry_of, ClosedAreClosed}
 use Rattle.history_laws.proofs.Bools.{and-first, and-last, not-true, or-last}
 
 -- ---- small facts
-
--- the same count, entry by entry
-counted : Past → ℕ
-counted [] = 0
-counted (e ∷ H) = cond (is_opening e) (1 + counted H) (counted H)
-
-counted-is : (H : Past) → counted H ≡ opened_count H
-unfolding counted
-counted-is H = is_count_by counted is_opening refl (λ e G. refl) H
-
-opened_count-opened : (H : Past) (c : ℕ) (i : Interface) (shared : Bool) → opened_count (Opened c i shared ∷ H) ≡ opened_count H + 1
-unfolding counted
-opened_count-opened H c i shared =
-    let h : counted H ≡ opened_count H = counted-is H in
-    let k : counted (Opened c i shared ∷ H) ≡ opened_count (Opened c i shared ∷ H) = counted-is (Opened c i shared ∷ H) in
-    sym k ∙ (let l : 1 + counted H ≡ opened_count H + 1 = omega arith in l)
 
 same-bool : (a b : Bool) → (a ≡ true → b ≡ true) → (b ≡ true → a ≡ true) → a ≡ b
 same-bool true b h k = sym (h refl)

@@ -13,7 +13,8 @@ use Rattle.piv_rules.proofs.WordLaws.{CompareWords-law}
 use Rattle.history_laws.specs.LoginLaws.{presents, IsPresented, PinsArePresented, GlobalPinsArePresented}
 use Rattle.history_laws.proofs.Asking.{compare-has}
 use Rattle.history_laws.proofs.Bools.{and-first, and-last, granted-word}
-use Rattle.history_laws.proofs.Tries.{compare-answer, same-reference}
+use Rattle.piv_rules.proofs.Limits.{same-reference}
+use Rattle.history_laws.proofs.Tries.{compare-answer}
 
 -- what presents a reference compares with it
 record IsOf (r : RefId) (a : Ask) : Type 0 where

@@ -25,7 +25,8 @@ use Rattle.piv_rules.proofs.Memories.{mem-step}
 use Rattle.piv_rules.proofs.LossLaws.{UpsTellTheMemory-law, OffLeavesTheMemory-law}
 use Rattle.history_laws.specs.RecoveryLaws.{IsOneTryLess, IsCarriedOut, RecoveryKeepsAPrefix, IdleLossesChangeNothing, CanBeSaid, WhatIsLeftCanBeSaid, TheFirstIsSaid}
 use Rattle.history_laws.proofs.Writers.{writer-answer}
-use Rattle.history_laws.proofs.Tries.{after-spent, after-nothing}
+use Rattle.piv_rules.proofs.Limits.{after-spent}
+use Rattle.history_laws.proofs.Tries.{after-nothing}
 use Rattle.history_laws.proofs.Bools.{not-true}
 
 -- ---- what is left

@@ -21,7 +21,7 @@ use Rattle.piv_rules.specs.Answers.{answer, answer_to, Situation, situation_of, 
 use Rattle.piv_rules.specs.Legal.{IsLegal, IsAllowed}
 use Rattle.piv_rules.specs.Losses.{MayBeSaid}
 use Rattle.piv_rules.proofs.Steps.{tries-step}
-use Rattle.piv_rules.proofs.Limits.{few-tries}
+use Rattle.piv_rules.proofs.Limits.{few-tries, tries-mem, same-reference, spent-comparison, after-spent, up-spends}
 use Rattle.piv_rules.proofs.WordLaws.{CompareWords-law}
 use Rattle.history_laws.specs.TriesLaws.{TriesAddUp, TriesAreWithin, IsMatch, IsMatched, OnlyMatchesRaise, MissesTakeOne, MatchesFill, UnblockingsFillThePin, UpsTellTheTries, concerns, in_flight_concerns, MissesLeaveOthers, OthersLeaveTheTries, SpendsHadATry, LossesHadATry}
 use Rattle.history_laws.proofs.Logins.{miss-is}
@@ -48,60 +48,7 @@ pub granted-equal : (s : Situation) (r : RefId) (p : List ℕ) (purpose : Purpos
 unfolding answer_to
 granted-equal s r p purpose few h = grind (arith, nat_tests)
 
--- the tries of the memory are those of the history
-tries-mem : (B : Base) (H : Past) (r : RefId) → (reference (mem B H) r).tries ≤ tries B H r
-unfolding mem
-tries-mem B H Pin = omega arith
-tries-mem B H Puk = omega arith
-tries-mem B H GlobalPin = go B.memory.global
-  where
-    go : (g : Option Reference) → (reference (record (mem B H) { global = option_map (λ x. reference_now B H GlobalPin) g }) GlobalPin).tries ≤ tries B H GlobalPin
-    go None = omega arith
-    go (Some x) = omega arith
-
 -- ---- spends
-
-pub same-reference : (r q : RefId) → same_reference r q ≡ true → r ≡ q
-same-reference Pin Pin h = refl
-same-reference Puk Puk h = refl
-same-reference GlobalPin GlobalPin h = refl
-same-reference Pin Puk h = absurd (cc)
-same-reference Pin GlobalPin h = absurd (cc)
-same-reference Puk Pin h = absurd (cc)
-same-reference Puk GlobalPin h = absurd (cc)
-same-reference GlobalPin Pin h = absurd (cc)
-same-reference GlobalPin Puk h = absurd (cc)
-
--- a try is spent by a comparison alone
-record IsComparison (r : RefId) (a : Ask) (t : Took) : Type 0 where
-  candidate : List ℕ
-  purpose : Purpose
-  compares : a ≡ Compare r candidate purpose
-  is_spent : t ≡ Spent
-
-spent-comparison : (r : RefId) (a : Ask) (t : Took) → spent_by r a t ≡ true → IsComparison r a t
-spent-comparison r (Compare q p purpose) Spent h =
-    record { candidate = p; purpose = purpose; compares = ap (λ x. Compare x p purpose) (sym (same-reference r q h)); is_spent = refl }
-spent-comparison r (Compare q p purpose) Nothing h = absurd (cc)
-spent-comparison r (Compare q p purpose) Done h = absurd (cc)
-spent-comparison r a t h = absurd (cc)
-
--- without a try to spend nothing changes
-one_less-none : (r : RefId) (m : Memory) → (reference m r).tries ≡ 0 → change_reference r one_less m ≡ m
-one_less-none Pin m h = ap (λ t. record m { pin = record m.pin { tries = t } }) (omega arith)
-one_less-none Puk m h = ap (λ t. record m { puk = record m.puk { tries = t } }) (omega arith)
-one_less-none GlobalPin m h = go m.global h
-  where
-    go : (g : Option Reference) → (reference (record m { global = g }) GlobalPin).tries ≡ 0
-        → change_reference GlobalPin one_less (record m { global = g }) ≡ record m { global = g }
-    go None e = refl
-    go (Some x) e = ap (λ t. record m { global = Some (record x { tries = t }) }) (omega arith)
-
-pub after-spent : (r : RefId) (p : List ℕ) (purpose : Purpose) (m : Memory)
-    → memory_after (Compare r p purpose) Spent m ≡ change_reference r one_less m
-after-spent r p Verify m = refl
-after-spent r p (Change n) m = refl
-after-spent r p (Unblock n) m = refl
 
 pub after-nothing : (a : Ask) (m : Memory) → memory_after a Nothing m ≡ m
 after-nothing (Compare r p Verify) m = refl
@@ -116,19 +63,6 @@ left-call B H c k word r p purpose is made asks =
     let j : word ≡ (answer_to (situation_of B H c) (Compare r p purpose)).word = is ∙ e in
     let one = left-compared (situation_of B H c) r p purpose (sym (ap (λ w. is_granted w || is_mismatched w) j) ∙ made) in
     let le = tries-mem B H r in omega arith
-
-left-up : (B : Base) (H : Past) (r : RefId) (a : Ask) → IsComparison r a Spent
-    → ¬ (memory_after a Spent (mem B H) ≡ memory_after a Nothing (mem B H)) → (n : ℕ) → tries B H r ≡ n → 1 ≤ n
-left-up B H r a k differs zero e =
-    absurd (differs (ap (λ b. memory_after b Spent (mem B H)) k.compares ∙ after-spent r k.candidate k.purpose (mem B H)
-    ∙ one_less-none r (mem B H) (let le = tries-mem B H r in omega arith) ∙ sym (after-nothing a (mem B H))))
-left-up B H r a k differs (suc n) e = omega arith
-
-up-spends : (B : Base) (H : Past) (r : RefId) (a : Ask) (took : Took)
-    → IsComparison r a took → MayBeSaid (mem B H) (Some a) took → 1 ≤ tries B H r
-up-spends B H r a Spent k may = left-up B H r a k may.1 (tries B H r) refl
-up-spends B H r a Nothing k may = let e = k.is_spent in absurd (cc)
-up-spends B H r a Done k may = let e = k.is_spent in absurd (cc)
 
 pub SpendsHadATry-law : SpendsHadATry
 SpendsHadATry-law B H (Call c k word block) r a h = go (is_granted word) (is_mismatched word) refl h

@@ -31,7 +31,7 @@ unfolding answer_to
 left-mismatch s r p purpose h = grind (arith, nat_tests)
 
 -- the tries of the memory are those of the history
-tries-mem : (B : Base) (H : Past) (r : RefId) → (reference (mem B H) r).tries ≤ tries B H r
+pub tries-mem : (B : Base) (H : Past) (r : RefId) → (reference (mem B H) r).tries ≤ tries B H r
 unfolding mem
 tries-mem B H Pin = omega arith
 tries-mem B H Puk = omega arith
@@ -41,7 +41,7 @@ tries-mem B H GlobalPin = go B.memory.global
     go None = omega arith
     go (Some x) = omega arith
 
-same-reference : (r q : RefId) → same_reference r q ≡ true → r ≡ q
+pub same-reference : (r q : RefId) → same_reference r q ≡ true → r ≡ q
 same-reference Pin Pin h = refl
 same-reference Puk Puk h = refl
 same-reference GlobalPin GlobalPin h = refl
@@ -53,13 +53,13 @@ same-reference GlobalPin Pin h = absurd (cc)
 same-reference GlobalPin Puk h = absurd (cc)
 
 -- a try is spent by a comparison alone
-record IsComparison (r : RefId) (a : Ask) (t : Took) : Type 0 where
-  candidate : List ℕ
-  purpose : Purpose
-  compares : a ≡ Compare r candidate purpose
-  is_spent : t ≡ Spent
+pub record IsComparison (r : RefId) (a : Ask) (t : Took) : Type 0 where
+  pub candidate : List ℕ
+  pub purpose : Purpose
+  pub compares : a ≡ Compare r candidate purpose
+  pub is_spent : t ≡ Spent
 
-spent-comparison : (r : RefId) (a : Ask) (t : Took) → spent_by r a t ≡ true → IsComparison r a t
+pub spent-comparison : (r : RefId) (a : Ask) (t : Took) → spent_by r a t ≡ true → IsComparison r a t
 spent-comparison r (Compare q p purpose) Spent h =
     record { candidate = p; purpose = purpose; compares = ap (λ x. Compare x p purpose) (sym (same-reference r q h)); is_spent = refl }
 spent-comparison r (Compare q p purpose) Nothing h = absurd (cc)
@@ -77,7 +77,7 @@ one_less-none GlobalPin m h = go m.global h
     go None e = refl
     go (Some x) e = ap (λ t. record m { global = Some (record x { tries = t }) }) (omega arith)
 
-after-spent : (r : RefId) (p : List ℕ) (purpose : Purpose) (m : Memory) → memory_after (Compare r p purpose) Spent m ≡ change_reference r one_less m
+pub after-spent : (r : RefId) (p : List ℕ) (purpose : Purpose) (m : Memory) → memory_after (Compare r p purpose) Spent m ≡ change_reference r one_less m
 after-spent r p Verify m = refl
 after-spent r p (Change n) m = refl
 after-spent r p (Unblock n) m = refl
@@ -114,7 +114,7 @@ left-up B H r a k differs zero e =
     ∙ sym (ap (λ b. memory_after b Nothing (mem B H)) k.compares ∙ after-nothing r k.candidate k.purpose (mem B H))))
 left-up B H r a k differs (suc n) e = omega arith
 
-up-spends : (B : Base) (H : Past) (r : RefId) (a : Ask) (took : Took)
+pub up-spends : (B : Base) (H : Past) (r : RefId) (a : Ask) (took : Took)
     → IsComparison r a took → MayBeSaid (mem B H) (Some a) took → 1 ≤ tries B H r
 up-spends B H r a Spent k may = left-up B H r a k may.1 (tries B H r) refl
 up-spends B H r a Nothing k may = let e = k.is_spent in absurd (cc)

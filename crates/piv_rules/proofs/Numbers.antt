@@ -18,7 +18,7 @@ counted-is : (H : Past) → counted H ≡ opened_count H
 unfolding counted
 counted-is H = is_count_by counted is_opening refl (λ e G. refl) H
 
-opened_count-opened : (H : Past) (c : ℕ) (i : Interface) (shared : Bool) → opened_count (Opened c i shared ∷ H) ≡ opened_count H + 1
+pub opened_count-opened : (H : Past) (c : ℕ) (i : Interface) (shared : Bool) → opened_count (Opened c i shared ∷ H) ≡ opened_count H + 1
 unfolding counted
 opened_count-opened H c i shared =
     let h : counted H ≡ opened_count H = counted-is H in
