@@ -1,4 +1,5 @@
 pub mod Row
+pub mod FilledUp
 pub mod Tearing
 pub mod Losing
 pub mod Written

@@ -1,5 +1,5 @@
 -- A row of bytes: its ranges, and writes over them.
-use Rattle.std.specs.Prelude.{◌⊎◌, ℕ, ◌+◌, ◌≤◌, List, ◌++◌, length, take, drop, replicate}
+use Rattle.std.specs.Prelude.{◌⊎◌, ℕ, ◌+◌, ◌-◌, ◌≤◌, List, ◌++◌, length, take, drop, replicate}
 
 -- n bytes from a place on
 unfoldable pub bytes_at : List ℕ → ℕ → ℕ → List ℕ
@@ -12,6 +12,10 @@ overwrite row place bytes = take place row ++ (bytes ++ drop (place + length byt
 -- so many zero bytes; it doesn't unfold by itself, since a device has a million of them
 unfoldable pub zeros : ℕ → List ℕ
 zeros n = replicate n 0
+
+-- these bytes, and zeros behind them up to the size
+unfoldable pub filled_up : List ℕ → ℕ → List ℕ
+filled_up bytes size = bytes ++ zeros (size - length bytes)
 
 -- n places from a on and m places from b on have none in common
 abbrev pub AreApart : ℕ → ℕ → ℕ → ℕ → Type 0

@@ -1,8 +1,9 @@
 // A row of bytes in memory, which never loses power by itself.
-ghost use Rattle.std.specs.Prelude.{◌≡◌, ◌+◌, ◌^◌, ◌<◌, ◌≤◌, [], length, Some, refl, IfOk};
+ghost use Rattle.std.specs.Prelude.{◌≡◌, ◌+◌, ◌^◌, ◌<◌, ◌≤◌, [], length, Some, vec_capacity, IfOk};
 ghost use Rattle.std.proofs.Common.{lit≤};
-ghost use Rattle.nvm_device.specs.Bytes.{bytes_at, overwrite};
+ghost use Rattle.nvm_device.specs.Bytes.{bytes_at, overwrite, filled_up};
 ghost use Rattle.nvm_device.specs.Device.{blank};
+ghost use Rattle.nvm_device.specs.Laws.{length-filled_up};
 
 use crate::{Lost, Nvm};
 use std::alloc::Global;
@@ -11,12 +12,16 @@ use std::alloc::Global;
 #[derive(Clone, Copy, Debug, PartialEq, Eq)]
 pub struct NoMemory;
 
-/// A device in memory.
+/// A device in memory. It takes its memory when it is made.
+// The row has room for all bytes and holds those up to the last one that was written; the others are zero.
 #[derive(Drop)]
 pub struct MemNvm {
     row: Vec<u8>,
+    size: usize,
     on: bool,
-    ghost fits: { length row.items < 2 ^ 64 },
+    ghost within: { length row.items ≤ size },
+    ghost room: { size ≤ vec_capacity row },
+    ghost fits: { size < 2 ^ 64 },
 }
 
 impl MemNvm {
@@ -24,18 +29,36 @@ impl MemNvm {
     pub fn new(alloc: Global, size: usize) -> Result<MemNvm, NoMemory>
         ensures { IfOk result (λ device. ⟦<MemNvm as Nvm>⟧.state device ≡ blank size) }
     {
-        match vec![in alloc; 0; size] {
-            Ok(row) => Ok(MemNvm { row, on: true }),
+        match Vec::with_capacity(alloc, size) {
+            Ok(row) => Ok(MemNvm {
+                row,
+                size,
+                on: true,
+            }),
             Err(_) => Err(NoMemory),
         }
     }
 }
 
+// Copies the bytes from a place on. Behind the row all are zero.
 fn copy_out(row: &[u8], place: usize, out: &mut [u8])
-    requires { place + length out.old ≤ length row.now }
-    ensures { out.new ≡ bytes_at row.now place (length out.old) }
+    ensures { out.new ≡ filled_up (bytes_at row.now place (length out.old)) (length out.old) }
 {
-    out.copy_from_slice(&row[place..place + out.len()]);
+    let stored = &row[place.min(row.len())..];
+    let count = stored.len().min(out.len());
+    out[..count].copy_from_slice(&stored[..count]);
+    out[count..].fill(0);
+}
+
+// Fills a row up to this size, for which it has room.
+fn fill_up(row: &mut Vec<u8>, size: usize)
+    requires { size ≤ vec_capacity row.old }
+    ensures items { row.new.items ≡ filled_up row.old.items size }
+    ensures capacity { vec_capacity row.old ≤ vec_capacity row.new }
+{
+    if row.len() < size {
+        row.resize(size, 0).unwrap();
+    }
 }
 
 fn copy_in(row: &mut [u8], place: usize, bytes: &[u8])
@@ -47,19 +70,19 @@ fn copy_in(row: &mut [u8], place: usize, bytes: &[u8])
 
 impl Nvm for MemNvm {
     ghost state = { λ m. record {
-      size = length m.row.items;
-      bytes = Some m.row.items;
+      size = m.size;
+      bytes = Some (filled_up m.row.items m.size);
       power = record { on = m.on; losses = 0; span = 0; due = Some [] };
     } };
 
-    ghost row_size = { λ m. refl };
+    ghost row_size = { λ m. length-filled_up m.row.items m.size m.within };
 
     ghost size_fits = { λ m. m.fits };
 
     ghost due_rises = { λ m. (tt, lit≤ tt) };
 
     fn size(&self) -> usize {
-        self.row.len()
+        self.size
     }
 
     fn lost(&self) -> u64 {
@@ -71,6 +94,7 @@ impl Nvm for MemNvm {
     }
 
     fn write(&mut self, place: usize, bytes: &[u8]) -> Result<(), Lost> {
+        fill_up(&mut self.row, place + bytes.len());
         copy_in(&mut self.row, place, bytes);
         Ok(())
     }

@@ -82,6 +82,41 @@ fn a_new_device_is_zero_and_keeps_its_bytes_over_a_cut(rt: HostRuntime) -> Resul
     Ok(())
 }
 
+// Writes two bytes at a place, and then reads four at another.
+fn expect_four<N: Nvm>(
+    rt: &impl Abort,
+    nvm: &mut N,
+    place: usize,
+    bytes: [u8; 2],
+    from: usize,
+    want: [u8; 4],
+)
+    requires on { (N.state nvm.old).power.on ≡ true }
+    requires write { place + 2 ≤ (N.state nvm.old).size }
+    requires read { from + 4 ≤ (N.state nvm.old).size }
+    ensures on { (N.state nvm.new).power.on ≡ true }
+    ensures size { (N.state nvm.new).size ≡ (N.state nvm.old).size }
+{
+    assert!(rt; !loses(nvm, place, &bytes));
+    let mut four = [1; 4];
+    nvm.read(from, &mut four);
+    assert_eq!(rt; four, want, "at {from}");
+}
+
+// Reads and writes before, across and behind the last byte that was written.
+#[test]
+fn bytes_that_were_never_written_are_zero(rt: HostRuntime) -> Result<(), Fail> {
+    let mut nvm = MemNvm::new(rt.alloc(), 100)?;
+    expect_four(&rt, &mut nvm, 3, [1, 2], 3, [1, 2, 0, 0]);
+    expect_four(&rt, &mut nvm, 90, [3, 4], 88, [0, 0, 3, 4]);
+    expect_four(&rt, &mut nvm, 91, [5, 6], 90, [3, 5, 6, 0]);
+    expect_four(&rt, &mut nvm, 4, [7, 8], 2, [0, 1, 7, 8]);
+    expect_four(&rt, &mut nvm, 40, [9, 10], 96, [0, 0, 0, 0]);
+    expect_four(&rt, &mut nvm, 98, [11, 12], 92, [6, 0, 0, 0]);
+    assert_eq!(rt; nvm.size(), 100);
+    Ok(())
+}
+
 // The second write is lost: the bytes 21 to 24 from place 2 on, over the bytes 1 to 8.
 #[test]
 fn a_lost_write_leaves_what_its_plan_says(rt: HostRuntime) -> Result<(), Fail> {
