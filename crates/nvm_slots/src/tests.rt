@@ -237,6 +237,7 @@ fn lay_word<N: Nvm>(nvm: &mut N, place: usize, byte: u8, word: &[u8; 4]) -> Resu
         → Laying area pieces end s (N.state nvm.old)
         → Laying area ((place + 1, word.now) ∷ (place, byte ∷ []) ∷ pieces) (place + 5) s (N.state nvm.new)) }
     ensures on { OnOk result ((N.state nvm.new).power.on ≡ true) }
+    ensures size { OnOk result ((N.state nvm.new).size ≡ (N.state nvm.old).size) }
     ensures fell { let area : Area = record { front = 4; size = 64 } in
         OnErr result ((pieces : List Piece) (end : ℕ) (s : DeviceState) → end ≤ place
         → Laying area pieces end s (N.state nvm.old) → Fell (FrontKept area) s (N.state nvm.new)) }
