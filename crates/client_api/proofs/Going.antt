@@ -10,10 +10,11 @@ use Rattle.client_api.specs.declared.call.Step.TheVariants as step
 use Rattle.client_api.specs.Calls.{Handle, Call, Replies, Asked, sends}
 use Rattle.client_api.specs.Answers.{api_answer, handle_after}
 use Rattle.client_api.specs.Machine.{Going}
-use Rattle.client_api.specs.Steps.{IsAt, IsRun, Went, Stepped, given}
+use Rattle.client_api.specs.Steps.{IsAt, IsRun, Went, Stepped, given, has_handle}
 use Rattle.client_api.specs.Whole.{IsMade, AreOwnOf, HasAdded, IsMadeOn}
 use Rattle.client_api.proofs.OneCard.{on_one_card}
 use Rattle.client_api.proofs.Full.{full_alone}
+use Rattle.client_api.proofs.HandedBack.{none_has, sent_has}
 
 -- a call in progress with its replies so far and their own records. It sends a further act, or has just begun
 pub record IsWithin (start now : Log → Type 0) (going : Going) (call : Call) (rs : Replies) : Type 0 where
@@ -30,10 +31,19 @@ some_of c rs e = go (sends c rs) e where
   go None e = absurd (cc)
   go (Some x) e = refl
 
-none_of : (c : Call) (rs : Replies) (a : ApiAnswer) (h : Option Handle) → IsRun c rs → step.Done a h ≡ given c rs → IsMade c a h rs
-none_of c rs a h run e = go (sends c rs) refl e where
+none_of : (c : Call) (rs : Replies) (a : ApiAnswer) (h : Option Handle) → IsRun c rs → is_some (handle_after c rs) ≡ has_handle c (api_answer c rs) → step.Done a h ≡ given c rs → IsMade c a h rs
+none_of c rs a h run has e = go (sends c rs) refl e where
   go : (o : Option Asked) → sends c rs ≡ o → step.Done a h ≡ cond (is_some o) step.More (step.Done (api_answer c rs) (handle_after c rs)) → IsMade c a h rs
-  go None s e = record { run = run; last = s; answered = cc; handed = cc }
+  go None s e =
+      let answered : a ≡ api_answer c rs = cc in
+      let handed : h ≡ handle_after c rs = cc in
+      record {
+        run = run;
+        last = s;
+        answered = answered;
+        handed = handed;
+        has = ap (λ (o : Option Handle). is_some o) handed ∙ (has ∙ sym (ap (has_handle c) answered));
+      }
   go (Some x) s e = absurd (cc)
 
 pub is_begun : (stands : Log → Type 0) (g : Going) (c : Call) → IsAt g c [] → (rs : Replies) × IsWithin stands stands g c rs
@@ -78,14 +88,14 @@ goes_done start old now seen turns c rs g g' a h within s = go (sends c rs) refl
   go None e s = (
     rs,
     record {
-      made = none_of c rs a h within.at.run s.0;
+      made = none_of c rs a h within.at.run (none_has c rs e within.goes) s.0;
       added = same_after start old now c rs within.added s.1;
       full = λ is. never_full seen turns c rs e within.goes;
     },
   )
   go (Some x) e s =
       let some = subst (λ (o : Option Asked). IsSome o) (sym e) refl in
-      let made = none_of c (s.0 ∷ rs) a h (within.at.run, some) s.1.gives in (
+      let made = none_of c (s.0 ∷ rs) a h (within.at.run, some) (sent_has c s.0 rs x e s.1.fits) s.1.gives in (
         s.0 ∷ rs,
         record {
           made = made;

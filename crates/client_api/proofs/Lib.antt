@@ -10,3 +10,4 @@ pub mod Full
 pub mod Going
 pub mod LineLaws
 pub mod CardLaws
+pub mod HandedBack

@@ -7,7 +7,7 @@ use Rattle.client_api.specs.declared.call.Step.{Step}
 use Rattle.client_api.specs.declared.call.Step.TheVariants as step
 use Rattle.client_api.specs.declared.state.State.{State}
 use Rattle.client_api.specs.declared.state.State.TheVariants as state
-use Rattle.card_acts.specs.Acts.{Heard}
+use Rattle.card_acts.specs.Acts.{Heard, is_answer_to}
 use Rattle.client_api.specs.Calls.{Call, Replies, Asked, sends, exchange, verify, piece}
 use Rattle.client_api.specs.Answers.{api_answer, handle_after}
 use Rattle.client_api.specs.Machine.{Going, At, Ended, Over, asked, next, after, is_ended}
@@ -38,8 +38,8 @@ stepped_plain old seen turns g g' call rs result e r at =
     (r ∙ (ap given_at at.place ∙ given_after call rs at.run), λ log h. h)
 
 pub stepped_turn : (old now : Log → Type 0) (seen turns : ℕ → ℕ) (g g' : Going) (call : Call) (rs : Replies) (result : Step) (x : Asked) (heard : Heard) → asked g ≡ Some x → Sent old now seen turns x heard
-    → result ≡ given_at (next g heard) → (result ≡ step.More → g' ≡ next g heard) → IsAt g call rs → Stepped old now seen turns call rs result g'
-stepped_turn old now seen turns g g' call rs result x heard asks sent r kept at =
+    → is_answer_to x.act heard ≡ true → result ≡ given_at (next g heard) → (result ≡ step.More → g' ≡ next g heard) → IsAt g call rs → Stepped old now seen turns call rs result g'
+stepped_turn old now seen turns g g' call rs result x heard asks sent fits r kept at =
     let some : sends call rs ≡ Some x = sym (asked_after call rs at.run) ∙ (sym (ap asked at.place) ∙ asks) in
     let run : IsRun call (heard ∷ rs) = (at.run, subst (λ (o : Option Asked). IsSome o) (sym some) refl) in
     let place : next g heard ≡ after call (heard ∷ rs) = ap (λ z. next z heard) at.place in
@@ -48,6 +48,7 @@ stepped_turn old now seen turns g g' call rs result x heard asks sent r kept at 
       heard,
       record {
         sent = sent;
+        fits = fits;
         gives = gives;
         goes = λ more. record { place = kept (gives ∙ go (sends call (heard ∷ rs)) more) ∙ place; run = run };
       },

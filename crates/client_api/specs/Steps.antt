@@ -1,6 +1,8 @@
 -- What a step of a call does (this project's own).
-use Rattle.std.specs.Prelude.{◌≡◌, ℕ, ◌<◌, suc, ◌-◌, ◌/◌, length, None, IsSome, is_some, MatchOption, IfSome, [], ◌∷◌, if◌then◌else◌}
-use Rattle.card_acts.specs.Acts.{Heard}
+use Rattle.std.specs.Prelude.{◌≡◌, ℕ, ◌<◌, suc, ◌-◌, ◌/◌, Bool, true, false, length, None, IsSome, is_some, MatchOption, IfSome, [], ◌∷◌, if◌then◌else◌}
+use Rattle.piv_model.specs.declared.answers.ApiAnswer.{ApiAnswer}
+use Rattle.piv_model.specs.declared.answers.ApiAnswer.TheVariants as api
+use Rattle.card_acts.specs.Acts.{Heard, is_answer_to}
 use Rattle.client_api.specs.declared.call.Step.{Step}
 use Rattle.client_api.specs.declared.call.Step.TheVariants as step
 use Rattle.client_api.specs.Calls.{Call, Decided, Connect, Disconnect, Select, LogIn, LogOut, Get, Put, Crypt, Admin, Transmit, Switch, Replies, Asked, sends}
@@ -53,9 +55,10 @@ pub record Sent (old now : Log → Type 0) (seen turns : ℕ → ℕ) (x : Asked
 abbrev pub given : Call → Replies → Step
 given call rs = if is_some (sends call rs) then step.More else step.Done (api_answer call rs) (handle_after call rs)
 
--- one turn, of act x, which had this answer
+-- one turn, of act x, which had this answer, one that such an act can have
 pub record Went (old now : Log → Type 0) (seen turns : ℕ → ℕ) (call : Call) (replies : Replies) (x : Asked) (result : Step) (going : Going) (heard : Heard) : Type 0 where
   pub sent : Sent old now seen turns x heard
+  pub fits : is_answer_to x.act heard ≡ true
   pub gives : result ≡ given call (heard ∷ replies)
   pub goes : IsSome (sends call (heard ∷ replies)) → IsAt going call (heard ∷ replies)
 
@@ -70,6 +73,26 @@ Stepped old now seen turns call replies result going =
 abbrev pub given_at : Going → Step
 given_at (Ended a h) = step.Done a h
 given_at _ = step.More
+
+-- ---- the handle that is handed back
+
+abbrev pub is_ok : ApiAnswer → Bool
+is_ok (api.Ok body) = true
+is_ok _ = false
+
+-- a connect has one exactly where it is answered PIV_OK, and another call of the API always
+abbrev pub has_handle : Call → ApiAnswer → Bool
+has_handle (Decided b h) a = is_some h
+has_handle (Connect card interface shared) a = is_ok a
+has_handle (Switch card act) a = false
+has_handle call a = true
+
+-- the one that a step hands back
+abbrev pub HandsBack : Going → Step → Type 0
+HandsBack going step.More = Unit {0}
+HandsBack (At call k body idle) (step.Done a h) = is_some h ≡ has_handle call a
+HandsBack (Ended b kept) (step.Done a h) = h ≡ kept
+HandsBack Over (step.Done a h) = ⊥
 
 -- ---- how many turns are left
 

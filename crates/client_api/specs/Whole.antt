@@ -1,11 +1,11 @@
 -- A call as a whole (this project's own).
-use Rattle.std.specs.Prelude.{◌≡◌, ℕ, List, [], ◌∷◌, ◌++◌, Option, Some, None}
+use Rattle.std.specs.Prelude.{◌≡◌, ℕ, List, [], ◌∷◌, ◌++◌, Option, Some, None, is_some}
 use Rattle.piv_model.specs.declared.answers.ApiAnswer.{ApiAnswer}
 use Rattle.piv_model.specs.declared.answers.ApiAnswer.TheVariants as api
 use Rattle.client_api.specs.Calls.{Handle, Call, Replies, Asked, sends}
 use Rattle.client_api.specs.Answers.{api_answer, handle_after}
 use Rattle.client_api.specs.Ports.{Log}
-use Rattle.client_api.specs.Steps.{IsRun}
+use Rattle.client_api.specs.Steps.{IsRun, has_handle}
 
 -- the call was made to its end with these replies, and answered by the tables
 pub record IsMade (call : Call) (answer : ApiAnswer) (handle : Option Handle) (replies : Replies) : Type 0 where
@@ -13,6 +13,8 @@ pub record IsMade (call : Call) (answer : ApiAnswer) (handle : Option Handle) (r
   pub last : sends call replies ≡ None
   pub answered : answer ≡ api_answer call replies
   pub handed : handle ≡ handle_after call replies
+  -- none exactly where a connect failed
+  pub has : is_some handle ≡ has_handle call answer
 
 -- the own records of these replies, the newest first: one for each answer of the card, of the act that the call sends
 -- there; Full has none

@@ -40,7 +40,7 @@ impl Model for ApiCall {
 impl ApiCall {
     ghost use Rattle.std.specs.Prelude.{◌≡◌, ◌≤◌, ◌<◌, ℕ};
     ghost use Rattle.client_api.specs.Calls.{Call, Replies};
-    ghost use Rattle.client_api.specs.Steps.{IsOn, IsAt, Stepped, GivesOn, given_at, left};
+    ghost use Rattle.client_api.specs.Steps.{IsOn, IsAt, Stepped, GivesOn, HandsBack, given_at, left};
     ghost use Rattle.client_api.specs.States.{going_of, IsSound};
 
     /// The next step of the call, which wasn't Done: one turn, or the answer of a call that makes none. It takes no
@@ -51,6 +51,7 @@ impl ApiCall {
             Stepped (P.stands port.old) (P.stands port.new) (P.seen port.new) (P.turns port.new)
             call replies result self.new }
         ensures on { (result ≡ Step.More → IsOn (P.cards port.old) self.new) × GivesOn (P.cards port.old) result }
+        ensures handle { HandsBack self.old result }
         ensures falls { result ≡ Step.More → left self.new < left self.old }
         ensures cards { P.cards port.new ≡ P.cards port.old }
         ensures bases { P.bases port.new ≡ P.bases port.old }

@@ -1,7 +1,7 @@
 // The next act of a call.
-ghost use Rattle.std.specs.Prelude.{◌≡◌, ℕ, ◌≤◌, ◌<◌, Some, IsSome, length, [], false, slice_get};
+ghost use Rattle.std.specs.Prelude.{◌≡◌, ℕ, ◌≤◌, ◌<◌, Some, IsSome, length, [], true, false, slice_get};
 ghost use Rattle.piv_objects.specs.Authenticators.{Credential};
-ghost use Rattle.card_acts.specs.Acts.{act_of, answer_of, IsShort};
+ghost use Rattle.card_acts.specs.Acts.{act_of, answer_of, is_answer_to, IsShort};
 ghost use Rattle.client_api.specs.Steps.{IsOn, Sent};
 ghost use Rattle.client_api.specs.Calls.{Asked, exchange as exchange_of, LogIn, LogOut, Get, Admin};
 ghost use Rattle.client_api.specs.Machine.{asked, At};
@@ -32,6 +32,8 @@ fn exchange<P: Port>(port: &mut P, handle: &CardHandle, bytes: &[u8]) -> Answer
     requires short { length bytes.now ≤ 512 }
     ensures sent { (x : Asked) → exchange_of handle.now bytes.now ≡ Some x →
         Sent (P.stands port.old) (P.stands port.new) (P.seen port.new) (P.turns port.new) x (answer_of result) }
+    ensures answer { (x : Asked) → exchange_of handle.now bytes.now ≡ Some x →
+        is_answer_to x.act (answer_of result) ≡ true }
     ensures cards { P.cards port.new ≡ P.cards port.old }
     ensures bases { P.bases port.new ≡ P.bases port.old }
     ensures turns { (k : ℕ) → P.turns port.new k ≡ P.turns port.old k }
@@ -61,6 +63,8 @@ fn send_log_in<P: Port>(port: &mut P, handle: &CardHandle, pins: &Vec<Pin>, turn
     requires small { (j : ℕ) (c : Credential) → slice_get pins.now.items j ≡ Some c → length c.pin ≤ 255 }
     ensures sent { (x : Asked) → asked (At (LogIn handle.now pins.now.items) turn [] false) ≡ Some x →
         Sent (P.stands port.old) (P.stands port.new) (P.seen port.new) (P.turns port.new) x (answer_of result) }
+    ensures answer { (x : Asked) → asked (At (LogIn handle.now pins.now.items) turn [] false) ≡ Some x →
+        is_answer_to x.act (answer_of result) ≡ true }
     ensures cards { P.cards port.new ≡ P.cards port.old }
     ensures bases { P.bases port.new ≡ P.bases port.old }
     ensures turns { (k : ℕ) → P.turns port.new k ≡ P.turns port.old k }
@@ -75,6 +79,8 @@ fn send_log_out<P: Port>(port: &mut P, handle: &CardHandle, turn: usize) -> Answ
     requires card { handle.now.card < P.cards port.old }
     ensures sent { (x : Asked) → asked (At (LogOut handle.now) turn [] false) ≡ Some x →
         Sent (P.stands port.old) (P.stands port.new) (P.seen port.new) (P.turns port.new) x (answer_of result) }
+    ensures answer { (x : Asked) → asked (At (LogOut handle.now) turn [] false) ≡ Some x →
+        is_answer_to x.act (answer_of result) ≡ true }
     ensures cards { P.cards port.new ≡ P.cards port.old }
     ensures bases { P.bases port.new ≡ P.bases port.old }
     ensures turns { (k : ℕ) → P.turns port.new k ≡ P.turns port.old k }
@@ -93,6 +99,8 @@ fn send_get<P: Port>(port: &mut P, handle: &CardHandle, object: ObjectId, turn: 
     requires card { handle.now.card < P.cards port.old }
     ensures sent { (x : Asked) → asked (At (Get handle.now object) turn [] false) ≡ Some x →
         Sent (P.stands port.old) (P.stands port.new) (P.seen port.new) (P.turns port.new) x (answer_of result) }
+    ensures answer { (x : Asked) → asked (At (Get handle.now object) turn [] false) ≡ Some x →
+        is_answer_to x.act (answer_of result) ≡ true }
     ensures cards { P.cards port.new ≡ P.cards port.old }
     ensures bases { P.bases port.new ≡ P.bases port.old }
     ensures turns { (k : ℕ) → P.turns port.new k ≡ P.turns port.old k }
@@ -119,6 +127,8 @@ fn send_admin<P: Port>(
     requires card { handle.now.card < P.cards port.old }
     ensures sent { (x : Asked) → asked (admin_at (Admin handle.now algorithm key.now) first.now) ≡ Some x →
         Sent (P.stands port.old) (P.stands port.new) (P.seen port.new) (P.turns port.new) x (answer_of result) }
+    ensures answer { (x : Asked) → asked (admin_at (Admin handle.now algorithm key.now) first.now) ≡ Some x →
+        is_answer_to x.act (answer_of result) ≡ true }
     ensures cards { P.cards port.new ≡ P.cards port.old }
     ensures bases { P.bases port.new ≡ P.bases port.old }
     ensures turns { (k : ℕ) → P.turns port.new k ≡ P.turns port.old k }
@@ -148,6 +158,7 @@ pub fn send<P: Port>(state: &State, port: &mut P) -> Answer
     requires on { IsOn (P.cards port.old) (going_of state.now) }
     ensures sent { (x : Asked) → asked (going_of state.now) ≡ Some x →
         Sent (P.stands port.old) (P.stands port.new) (P.seen port.new) (P.turns port.new) x (answer_of result) }
+    ensures answer { (x : Asked) → asked (going_of state.now) ≡ Some x → is_answer_to x.act (answer_of result) ≡ true }
     ensures cards { P.cards port.new ≡ P.cards port.old }
     ensures bases { P.bases port.new ≡ P.bases port.old }
     ensures turns { (k : ℕ) → P.turns port.new k ≡ P.turns port.old k }

@@ -161,7 +161,8 @@ fn take_admin(
 
 fn end_admin(handle: CardHandle, answer: Answer) -> State
     ensures sound { IsSound result }
-    ensures next { (a : ℕ) (k all : List ℕ) → going_of result ≡ Ended (by_last (Admin handle a k) all false (answer_of answer)) (Some (renewed handle (answer_of answer))) }
+    ensures next { (a : ℕ) (k all : List ℕ) → going_of result ≡ Ended
+        (by_last (Admin handle a k) all false (answer_of answer)) (Some (renewed handle (answer_of answer))) }
     ensures on { (cards : ℕ) → handle.card < cards → IsOn cards (going_of result) }
 {
     let renewed = renew(&handle, &answer);
