@@ -1,39 +1,29 @@
 -- What the scripts did, by what the port stands for.
-use Rattle.std.proofs.Common.{◌≡◌, ℕ, zero, suc, ◌+◌, Bool, List, [], ◌∷◌, length, Result, Ok, Err, refl, sym, ap, subst, ◌∙◌, arith}
-use Rattle.std.specs.Prelude.{OnOk, sum_by}
-use Rattle.std.specs.List.{AllByRecursion}
+use Rattle.std.proofs.Common.{◌≡◌, ℕ, Bool, List, length, Result, Ok, Err, sym, ap, subst, ◌∙◌, arith}
+use Rattle.std.specs.Prelude.{OnOk}
 use Rattle.std.proofs.lemmas.List.{length-map}
-use Rattle.std.proofs.lemmas.List.Sums.{sum_by-cons}
 use Rattle.piv_model.specs.declared.store.Store.{Ghosts}
 use Rattle.piv_rules.specs.Acts.{Records}
-use Rattle.script_line.specs.declared.line.Line.{Line}
-use Rattle.script_line.specs.Playable.{ArePlayable}
 use Rattle.script_line.specs.Scripts.{ScriptData}
 use Rattle.block_store.specs.Blocks.{block_form}
 use Rattle.card_cell.specs.declared.base.CellBase.{CellBase}
 use Rattle.card_cell.specs.declared.cell.CardCell.{CardCell}
-use Rattle.client_api.specs.Players.{line_turns, Played}
+use Rattle.client_api.specs.Players.{Played}
 use Rattle.client_api.specs.Ports.{AreInside}
 use Rattle.client_api.specs.Readers.{Names}
 use Rattle.cell_port.specs.Owned.{HoldAll, OwnerStandsFor, turns_at}
 use Rattle.cell_port.specs.OwnedLaws.{found, turns-held}
-use Rattle.piv_scene.specs.SceneValues.{IsScriptOf, SceneValue}
+use Rattle.piv_scene.specs.SceneValues.{SceneValue}
 use Rattle.script_runs.specs.Runs.{Answered, Run, Scheduled, Scripts, log_of}
-use Rattle.script_runs.specs.Turns.{AllPlayable, HasTurns, all_turns, script_turns}
+use Rattle.script_runs.specs.Turns.{HasTurns, all_turns}
 use Rattle.script_runs.specs.Progress.{Ran, answers_of, scripts_of}
 use Rattle.scene_cells.specs.Turns.{scene_turns}
 use Rattle.scene_readers.specs.SceneNames.{names_of}
-use Rattle.piv_bench.specs.Benched.{lines_of}
-use Rattle.piv_bench.specs.Played.{HaveTurns, PlayedOn}
+use Rattle.scene_runs.specs.CardRuns.{HaveTurns, lines_of}
+use Rattle.scene_runs.proofs.Lines.{turns-of-all}
+use Rattle.piv_bench.specs.Played.{PlayedOn}
 
 -- ---- turns for all lines
-
-turns-of-all : (scripts : List ScriptData) → all_turns (lines_of scripts) ≡ scene_turns scripts
-turns-of-all [] = refl
-turns-of-all (s ∷ scripts) =
-    sum_by-cons script_turns s.lines (lines_of scripts)
-    ∙ ap (λ (n : ℕ). script_turns s.lines + n) (turns-of-all scripts)
-    ∙ sym (sum_by-cons (λ (x : ScriptData). sum_by line_turns x.lines) s scripts)
 
 pub enough-turns : {S T : Type 0} {meaning : Ghosts S T} (put_cost : ℕ → ℕ) (scripts : List ScriptData) (cells : List (CardCell S T meaning)) (bases : List CellBase)
     (records : ℕ → Records) → HoldAll put_cost cells bases records → HaveTurns (scene_turns scripts) bases
@@ -45,15 +35,6 @@ enough-turns put_cost scripts cells bases records all have card lt =
     let turns = have card base.0 base.1 in
     let most = turns-of-all scripts in
     omega (arith, is, turns, most)
-
--- ---- lines that can be played
-
-pub all-playable : (cards readers : List (List ℕ)) (scripts : List ScriptData) → AllByRecursion (IsScriptOf cards readers) scripts → AllPlayable (lines_of scripts)
-all-playable cards readers [] all k lines at = absurd (cc)
-all-playable cards readers (s ∷ scripts) all zero lines at =
-    let same : s.lines ≡ lines = cc in
-    subst (λ (l : List Line). ArePlayable l) same all.0.playable
-all-playable cards readers (s ∷ scripts) all (suc k) lines at = all-playable cards readers scripts all.1 k lines at
 
 -- ---- the run
 

@@ -1,4 +1,2 @@
-pub mod Holding
 pub mod Standing
-pub mod Sizes
 pub mod Ending

@@ -6,7 +6,8 @@ use Rattle.piv_scene.specs.SceneValues.{SceneValue}
 use Rattle.script_runs.specs.Runs.{Run, log_of, moves_of}
 use Rattle.script_runs.specs.Shares.{SharesOut}
 use Rattle.scene_readers.specs.SceneNames.{names_of}
-use Rattle.piv_bench.specs.Benched.{ScriptsRan, lines_of}
+use Rattle.scene_runs.specs.CardRuns.{lines_of}
+use Rattle.piv_bench.specs.Benched.{ScriptsRan}
 
 -- a run of a scene's scripts is a sharing-out of the records of its cards
 abbrev pub RunsShareOut : Type 0

@@ -4,12 +4,9 @@
 
 mod laws;
 mod play;
-mod prepared;
-mod run_out;
 mod scene_run;
 #[cfg(test)]
 mod tests;
 
 pub use laws::runs_share_out;
-pub use run_out::RunOut;
 pub use scene_run::bench;

@@ -7,8 +7,8 @@ ghost use Rattle.script_runs.specs.Progress.{AreBegun, answers_of, scripts_of};
 ghost use Rattle.script_runs.specs.Runs.{Run};
 ghost use Rattle.scene_cells.specs.Turns.{scene_turns};
 ghost use Rattle.scene_readers.specs.SceneNames.{names_of};
-ghost use Rattle.piv_bench.specs.Benched.{lines_of};
-ghost use Rattle.piv_bench.specs.Played.{HaveTurns, PlayedOn};
+ghost use Rattle.scene_runs.specs.CardRuns.{HaveTurns, lines_of};
+ghost use Rattle.piv_bench.specs.Played.{PlayedOn};
 
 use block_store::BlockStore;
 use cell_port::{Beginnings, CellPort};

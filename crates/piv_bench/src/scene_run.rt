@@ -10,25 +10,25 @@ ghost use Rattle.script_runs.specs.Runs.{Run};
 ghost use Rattle.scene_cells.specs.Raised.{AreBack, HasFault};
 ghost use Rattle.scene_cells.specs.Turns.{scene_turns};
 ghost use Rattle.scene_readers.specs.SceneNames.{names_of};
-ghost use Rattle.piv_bench.specs.Benched.{Benched, lines_of};
-ghost use Rattle.piv_bench.specs.Played.{AreLeftBy, HaveTurns};
+ghost use Rattle.scene_runs.specs.CardRuns.{HaveTurns, lines_of};
+ghost use Rattle.piv_bench.specs.Benched.{Benched};
+ghost use Rattle.piv_bench.specs.Played.{AreLeftAsPlanned};
 
 use crate::play::play_on;
-use crate::prepared::{Prepared, prepare};
-use crate::run_out::RunOut;
 use block_store::BlockStore;
 use cell_port::Beginnings;
 use nvm_device::{Fused, Nvm};
 use piv_model::NoMemory;
 use piv_scene::Scene;
 use scene_cells::{Raised, RunFault, hand_back, raise};
+use scene_runs::{Prepared, RunOut, prepare};
 use script_runs::answers_of;
 use std::alloc::Global;
 use std::marker::Brand;
 
-/// Runs a scene. Device k is personalised as card k; there are at least eight devices, each on and of at least 1,114,112
-/// bytes. The scripts make the steps that the schedule names, and then one each, round after round, until all have
-/// ended. Under every answer the devices are in their places again. `Device` comes only where a card's device lost
+/// Runs a scene. Device k is personalised as card k; there are at least eight devices, each on and of at least
+/// 1,114,112 bytes. The scripts make the steps that the schedule names, and then one each, round after round, until all
+/// have ended. Under every answer the devices are in their places again. `Device` comes only where a card's device lost
 /// power while it was personalised.
 pub fn bench<N: Nvm + Drop>(
     alloc: Global,
@@ -82,7 +82,7 @@ fn run_raised<N: Nvm + Drop, L: Beginnings>(
     requires place { length raised.cells.items + vec_len devices.old ≤ vec_capacity devices.old }
     requires empty { raised.histories.items ≡ [] }
     requires histories { length raised.cells.items ≤ vec_capacity raised.histories }
-    ensures ran { IfOk result (λ out. (run : Run) × AreLeftBy N.state scene.now L.bases L.tells devices.new.items
+    ensures ran { IfOk result (λ out. (run : Run) × AreLeftAsPlanned N.state scene.now L.bases L.tells devices.new.items
         (map (λ answers. answers.items) out.answers.items) (map (λ h. h.past) out.cards.items) run) }
     ensures fault { result ≡ Err RunFault.Device → ⊥ }
     ensures many { length devices.new.items ≡ length raised.cells.items + length devices.old.items }

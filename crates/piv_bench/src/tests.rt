@@ -5,12 +5,13 @@ ghost use Rattle.power_loss.specs.Due.{RisesFrom};
 ghost use Rattle.power_loss.specs.Plans.{write_numbers};
 ghost use Rattle.block_store.specs.Devices.{IsReady};
 
-use crate::{RunOut, bench};
+use crate::bench;
 use entry_text::{print_answer, print_history};
 use nvm_device::{Fused, How, Loss, MemNvm, Nvm};
 use piv_ports::{MemSink, write_all};
 use piv_scene::{Scene, read_scene};
 use scene_cells::RunFault;
+use scene_runs::RunOut;
 use std::alloc::Global;
 use std::test::Fail;
 

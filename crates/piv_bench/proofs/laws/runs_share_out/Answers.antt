@@ -1,6 +1,6 @@
 use Rattle.script_runs.proofs.Sharing.{shares_out}
 use Rattle.scene_readers.specs.SceneNames.{names_of}
-use Rattle.piv_bench.specs.Benched.{lines_of}
+use Rattle.scene_runs.specs.CardRuns.{lines_of}
 use Rattle.piv_bench.proofs.laws.runs_share_out.Goals as goal
 
 pub returns : goal.returns

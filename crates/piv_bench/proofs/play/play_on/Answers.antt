@@ -5,7 +5,8 @@ use Rattle.cell_port.specs.OwnedLaws.{seen-recorded}
 use Rattle.client_api.specs.Ports.{records_of}
 use Rattle.script_runs.specs.Runs.{Scripts, log_of}
 use Rattle.script_runs.specs.Turns.{AllPlayable, HasTurns, all_turns}
-use Rattle.piv_bench.proofs.Ending.{all-playable, enough-turns, on-ok, played-on, players-many}
+use Rattle.scene_runs.proofs.Lines.{all-playable}
+use Rattle.piv_bench.proofs.Ending.{enough-turns, on-ok, played-on, players-many}
 use Rattle.piv_bench.proofs.play.play_on.Goals as goal
 
 pub returns-clause-players : goal.returns-clause-players

@@ -3,9 +3,10 @@ use Rattle.std.specs.List.{All}
 use Rattle.std.proofs.lemmas.List.Elements.{All-drop}
 use Rattle.scene_cells.specs.Cells.{device_in}
 use Rattle.scene_cells.specs.Turns.{scene_turns}
-use Rattle.piv_bench.proofs.Holding.{have-turns, held-all}
-use Rattle.piv_bench.proofs.Sizes.{ready-sizes, sizes-back}
-use Rattle.piv_bench.proofs.Standing.{benched, if-ok, others-stand}
+use Rattle.scene_runs.proofs.Holding.{have-turns, held-all}
+use Rattle.scene_runs.proofs.Sizes.{ready-sizes, sizes-back}
+use Rattle.scene_runs.proofs.Standing.{if-ok, others-stand}
+use Rattle.piv_bench.proofs.Standing.{benched}
 use Rattle.piv_bench.proofs.scene_run.bench.Goals as goal
 
 pub run_raised-requires-clause-held : goal.run_raised-requires-clause-held

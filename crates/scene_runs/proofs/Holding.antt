@@ -12,7 +12,7 @@ use Rattle.cell_port.specs.Owned.{HoldAll}
 use Rattle.cell_port.specs.OwnedLaws.{found}
 use Rattle.scene_cards.specs.CardValues.{CardValue}
 use Rattle.scene_cells.specs.Raised.{AreRaised, cell_base, cell_bases}
-use Rattle.piv_bench.specs.Played.{HaveTurns}
+use Rattle.scene_runs.specs.CardRuns.{HaveTurns}
 
 pub length-bases : (turns : ℕ) (cards : List CardValue) (losses : List ℕ) → length losses ≡ length cards → length (cell_bases turns cards losses) ≡ length cards
 length-bases turns [] losses e = refl

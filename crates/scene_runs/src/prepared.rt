@@ -4,7 +4,7 @@ ghost use Rattle.client_api.specs.Players.{AreNamesOn};
 ghost use Rattle.script_runs.specs.Progress.{AreBegun, scripts_of};
 ghost use Rattle.script_runs.specs.Turns.{AllPlayable};
 ghost use Rattle.scene_readers.specs.SceneNames.{names_of};
-ghost use Rattle.piv_bench.specs.Benched.{lines_of};
+ghost use Rattle.scene_runs.specs.CardRuns.{lines_of};
 
 use client_api::{Player, Readers};
 use piv_model::{ApiAnswer, NoMemory};
@@ -13,15 +13,17 @@ use scene_readers::readers_of;
 use script_runs::players_of;
 use std::alloc::Global;
 
-// The readers, a player at the beginning of each script, and room for the answers of each.
+/// What a run takes besides its cells: the readers of the cards, a player at the beginning of each script, and room for
+/// the answers of each.
 #[derive(Drop)]
-pub(crate) struct Prepared<'a> {
-    pub(crate) readers: Readers,
-    pub(crate) players: Vec<Player<'a>>,
-    pub(crate) room: Vec<Vec<ApiAnswer>>,
+pub struct Prepared<'a> {
+    pub readers: Readers,
+    pub players: Vec<Player<'a>>,
+    pub room: Vec<Vec<ApiAnswer>>,
 }
 
-pub(crate) fn prepare<'a>(alloc: Global, scene: &'a Scene) -> Result<Prepared<'a>, NoMemory>
+/// Prepares a run of a scene.
+pub fn prepare<'a>(alloc: Global, scene: &'a Scene) -> Result<Prepared<'a>, NoMemory>
     ensures names { IfOk result (λ p. p.readers ≡ names_of scene.entry.now.cards) }
     ensures on { IfOk result (λ p. AreNamesOn (length scene.entry.now.cards) p.readers) }
     ensures begun { IfOk result (λ p. AreBegun p.players.items) }

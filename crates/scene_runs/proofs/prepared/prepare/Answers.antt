@@ -1,8 +1,8 @@
 use Rattle.std.proofs.Common.{List, map, sym, subst}
 use Rattle.script_line.specs.Scripts.{ScriptData}
 use Rattle.script_runs.specs.Turns.{AllPlayable}
-use Rattle.piv_bench.proofs.Ending.{all-playable}
-use Rattle.piv_bench.proofs.prepared.prepare.Goals as goal
+use Rattle.scene_runs.proofs.Lines.{all-playable}
+use Rattle.scene_runs.proofs.prepared.prepare.Goals as goal
 
 pub players_of-requires : goal.players_of-requires
 players_of-requires c =
