@@ -17,12 +17,12 @@ use crate::input::scene_from;
 use crate::output::flush;
 use crate::status::Status;
 use nvm_device::Nvm;
-use piv_bench::RunOut;
 use piv_model::Limit;
 use piv_ports::{Sink, Source, WriteStop};
 use piv_scene::Scene;
 use run_text::print_run;
 use scene_cells::RunFault;
+use scene_runs::RunOut;
 use std::alloc::Global;
 
 // Prints a run, and flushes it.
