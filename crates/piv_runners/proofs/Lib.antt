@@ -1,0 +1,3 @@
+pub mod CellBases
+pub mod Playing
+pub mod Leaving
