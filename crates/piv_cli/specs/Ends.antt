@@ -5,12 +5,12 @@ use Rattle.scene_table.specs.declared.fault.SceneFault.TheVariants as fault
 use Rattle.piv_scene.specs.Outcomes.{outcome}
 use Rattle.piv_scene.specs.SceneValues.{SceneValue}
 use Rattle.piv_cli.specs.declared.words.Request.{Request}
-use Rattle.piv_cli.specs.declared.words.Request.TheVariants.{Apdu, Bench}
+use Rattle.piv_cli.specs.declared.words.Request.TheVariants.{Apdu, Bench, Run}
 use Rattle.piv_cli.specs.declared.status.Status.{Status}
 use Rattle.piv_cli.specs.declared.status.Status.TheVariants.{Done, Usage, BadScene, TooLarge, ReadFault, WriteFault, DeviceFault, NoMemory}
 use Rattle.piv_cli.specs.Outputs.{most_input}
 
--- `bench` ends so only where the input's bytes have this outcome; a failed read and want of memory may come before
+-- a command that runs a scene ends so only where the input's bytes have this outcome; a failed read and want of memory may come before
 abbrev pub EndsBy : Status → Result SceneValue SceneFault → Type 0
 EndsBy Done reading = IsOk reading
 EndsBy WriteFault reading = IsOk reading
@@ -21,10 +21,11 @@ EndsBy Usage reading = ⊥
 EndsBy ReadFault reading = ⊤
 EndsBy NoMemory reading = ⊤
 
--- an input that a command can serve: not too large, and for `bench` a scene
+-- an input that a command can serve: not too large, and a scene where one is run
 abbrev pub CanServe : Request → List ℕ → Type 0
 CanServe Apdu input = length input ≤ most_input
 CanServe Bench input = IsOk (outcome input)
+CanServe Run input = IsOk (outcome input)
 CanServe _ input = ⊤
 
 -- the input was refused: it has too many bytes, is no scene or passes a limit

@@ -3,6 +3,7 @@ pub mod Lines
 pub mod Devices
 pub mod Outputs
 pub mod Scenes
+pub mod Commands
 pub mod Ends
 pub mod Sessions
 pub mod Statuses

@@ -6,7 +6,7 @@ use Rattle.std.specs.declared.string.String.{String}
 use Rattle.std.specs.declared.alloc.Global.{Global}
 use Rattle.line_words.specs.Words.{◌>>=◌, number_word}
 use Rattle.piv_cli.specs.declared.words.Request.{Request}
-use Rattle.piv_cli.specs.declared.words.Request.TheVariants.{Apdu, Bench, Make, Help, Version}
+use Rattle.piv_cli.specs.declared.words.Request.TheVariants.{Apdu, Bench, Run, Make, Help, Version}
 
 -- each text as its bytes
 abbrev pub texts : List (String Global) → List (List ℕ)
@@ -17,6 +17,7 @@ abbrev pub named : List ℕ → Option Request
 named word =
     if bytes_eq word (codes "apdu") then Some Apdu
     else if bytes_eq word (codes "bench") then Some Bench
+    else if bytes_eq word (codes "run") then Some Run
     else if bytes_eq word (codes "--help") then Some Help
     else if bytes_eq word (codes "--version") then Some Version
     else None
@@ -38,14 +39,30 @@ asked_for (word ∷ []) = named word
 asked_for (word ∷ lines ∷ number ∷ []) = if bytes_eq word (codes "make") then made lines number else None
 asked_for _ = None
 
--- the commands that read the input, and those that personalise devices
+-- `plain` has no threads: it serves every command but `run`
+abbrev pub but_run : Option Request → Option Request
+but_run (Some Run) = None
+but_run asked = asked
+
+-- the command that the words are to `plain`
+unfoldable pub plainly_asked : List (List ℕ) → Option Request
+plainly_asked words = but_run (asked_for words)
+
+-- the commands that run the scene of the input, those that read the input, and those that personalise devices
+abbrev pub runs_scene : Option Request → Bool
+runs_scene (Some Bench) = true
+runs_scene (Some Run) = true
+runs_scene _ = false
+
 abbrev pub reads_input : Option Request → Bool
 reads_input (Some Apdu) = true
 reads_input (Some Bench) = true
+reads_input (Some Run) = true
 reads_input _ = false
 
 abbrev pub uses_devices : Option Request → Bool
 uses_devices (Some Apdu) = true
 uses_devices (Some Bench) = true
+uses_devices (Some Run) = true
 uses_devices (Some (Make n seed)) = true
 uses_devices _ = false

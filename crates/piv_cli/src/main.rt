@@ -2,7 +2,6 @@
 #![tactic(auto)]
 
 mod apdu;
-mod bench;
 mod devices;
 mod hexadecimal;
 mod hint;
@@ -16,6 +15,7 @@ mod loss_tests;
 mod make;
 mod output;
 mod program;
+mod scene;
 #[cfg(test)]
 mod scene_tests;
 mod status;
@@ -24,7 +24,7 @@ mod tests;
 mod words;
 
 use crate::devices::blank_devices;
-use crate::program::plain;
+use crate::program::top;
 use crate::status::Status;
 use crate::words::Words;
 use piv_ports::{StdSink, StdSource};
@@ -49,7 +49,7 @@ fn main(rt: HostRuntime) -> ExitCode {
     };
     let mut source = StdSource::new(rt.reader());
     let mut sink = StdSink::new(io::writer(&rt));
-    let status = plain(alloc, &words, &mut source, &mut sink, &mut devices);
+    let status = top(&rt, alloc, &words, &mut source, &mut sink, &mut devices);
     ended(&rt, status)
 }
 

@@ -91,9 +91,10 @@ fn an_end_that_fails_is_told(rt: HostRuntime) -> Result<(), Fail> {
 fn words_are_a_command_with_its_numbers(rt: HostRuntime) -> Result<(), Fail> {
     let alloc = rt.alloc();
     let most = u64::MAX;
-    let cases: [(&[&str], Option<Request>); 13] = [
+    let cases: [(&[&str], Option<Request>); 14] = [
         (&["apdu"], Some(Request::Apdu)),
         (&["bench"], Some(Request::Bench)),
+        (&["run"], Some(Request::Run)),
         (&["make", "1", "0"], Some(Request::Make { n: 1, number: 0 })),
         (
             &["make", "4000", "18446744073709551615"],
@@ -141,6 +142,7 @@ fn a_hint_says_where(rt: HostRuntime) -> Result<(), Fail> {
     Ok(())
 }
 
+// Without threads `run` is none.
 #[test]
 fn words_that_are_no_command_are_refused(rt: HostRuntime) -> Result<(), Fail> {
     let alloc = rt.alloc();
@@ -150,6 +152,7 @@ fn words_that_are_no_command_are_refused(rt: HostRuntime) -> Result<(), Fail> {
         &["apdu", "apdu"],
         &["--help", "apdu"],
         &["APDU"],
+        &["run"],
     ] {
         let (status, written) = run(alloc, words, SELECT.as_bytes(), &[], 1000)?;
         assert_eq!(rt; status, Status::Usage);

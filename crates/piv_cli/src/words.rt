@@ -1,7 +1,7 @@
 // The words of the program.
-ghost use Rattle.std.specs.Prelude.{◌≡◌, ◌≢◌, ◌≤◌, ◌++◌, ◌∷◌, [], ℕ, Some, IfSome, OnOk, OnErr};
+ghost use Rattle.std.specs.Prelude.{◌≡◌, ◌≢◌, ◌≤◌, ◌++◌, ◌∷◌, [], ℕ, true, false, Some, IfSome, OnOk, OnErr};
 ghost use Rattle.line_words.specs.Words.{is_plain as is_plain_word, number_word};
-ghost use Rattle.piv_cli.specs.Words.{asked_for, lines_wanted, made as made_of, named};
+ghost use Rattle.piv_cli.specs.Words.{asked_for, but_run, lines_wanted, made as made_of, named, plainly_asked};
 
 use piv_model::NoMemory;
 use std::alloc::Global;
@@ -14,6 +14,8 @@ pub enum Request {
     Apdu,
     /// Read a scene, run it by its schedule, and write its answers and histories.
     Bench,
+    /// Read a scene, run each script in a thread of its own, and write what `Bench` writes.
+    Run,
     /// Run the scene that `number` makes, with `n` lines of its own, and write what was counted.
     Make { n: u32, number: u64 },
     /// Say how the program is used.
@@ -59,9 +61,10 @@ impl Words {
     }
 
     /// What the words ask, if they are a command.
-    #[tactic(auto, unfolding(crate::specs::Words::asked_for))]
+    #[tactic(auto, unfolding(crate::specs::Words::asked_for, crate::specs::Words::plainly_asked))]
     pub fn request(&self) -> Option<Request>
         ensures command { result ≡ asked_for self.now }
+        ensures plainly { but_run result ≡ plainly_asked self.now }
         ensures few_lines { (n number : ℕ) → result ≡ Some (Request.Make n number) → (1 ≤ n) × (n ≤ 4000) }
     {
         match self.words.as_slice() {
@@ -76,6 +79,14 @@ impl Words {
             _ => None,
         }
     }
+
+    /// Whether they ask for threads, which `plain` has none of.
+    pub fn ask_for_threads(&self) -> bool
+        ensures run { result ≡ true → asked_for self.now ≡ Some Request.Run }
+        ensures plain { result ≡ false → plainly_asked self.now ≡ asked_for self.now }
+    {
+        matches!(self.request(), Some(Request::Run))
+    }
 }
 
 fn named_by(word: &str) -> Option<Request>
@@ -86,6 +97,8 @@ fn named_by(word: &str) -> Option<Request>
         Some(Request::Apdu)
     } else if word == "bench" {
         Some(Request::Bench)
+    } else if word == "run" {
+        Some(Request::Run)
     } else if word == "--help" {
         Some(Request::Help)
     } else if word == "--version" {
