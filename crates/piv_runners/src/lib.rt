@@ -3,6 +3,8 @@
 
 mod bases;
 mod play;
+#[cfg(test)]
+mod tests;
 mod threaded;
 
 pub use threaded::at_once;
