@@ -5,8 +5,6 @@
 mod laws;
 mod play;
 mod scene_run;
-#[cfg(test)]
-mod tests;
 
 pub use laws::runs_share_out;
 pub use scene_run::bench;

@@ -71,7 +71,7 @@ script
 
 type Flag = Arc<AtomicBool, Global>;
 
-// How far a device is: no card stands on it, one does, and it met the other device at the card's first write or gave up.
+// How far a device is: no card stands on it, or one does, or at the card's first write it met the other or gave up.
 #[derive(Clone, Copy, Debug, PartialEq, Eq)]
 enum Stage {
     Unarmed,
