@@ -17,13 +17,16 @@ use Rattle.run_text.specs.Summaries.{summary_text}
 -- ---- how a scene is run, with these answers and histories
 
 -- step by step, in the order of its schedule
-abbrev pub RanBySchedule : {N : Type 0} → (N → DeviceState) → List N → List N → SceneValue → List (List ApiAnswer) → List Past → Type 0
+abbrev pub RanBySchedule : {N : Type 0} → (N → DeviceState) → List N → List N → SceneValue → List (List ApiAnswer)
+    → List Past → Type 0
 RanBySchedule state old new scene answers histories = (run : Run) × Benched state scene old new answers histories run
 
 -- each script in a thread of its own
-abbrev pub RanInThreads : {N : Type 0} → (N → DeviceState) → List N → List N → SceneValue → List (List ApiAnswer) → List Past → Type 0
+abbrev pub RanInThreads : {N : Type 0} → (N → DeviceState) → List N → List N → SceneValue → List (List ApiAnswer)
+    → List Past → Type 0
 RanInThreads state old new scene answers histories =
-    (records : ℕ → Records) × (shares : ℕ → List Move) × RanTogether state scene old new answers histories records shares
+    (records : ℕ → Records) × (shares : ℕ → List Move)
+    × RanTogether state scene old new answers histories records shares
 
 -- ---- what is written
 

@@ -55,8 +55,8 @@ usage: piv COMMAND
 pub const VERSION: &str = "piv 0.1.0\n";
 
 /// Does what the words say: all that the program does. `apdu` personalises device 0 as the plain card and runs on it; a
-/// command that runs a scene personalises a device for each of its cards, the first for the first one. `run` starts a thread
-/// for each script, which waits for its turns at the cards.
+/// command that runs a scene personalises a device for each of its cards, the first for the first one. `run` starts a
+/// thread for each script, which waits for its turns at the cards.
 pub fn top<R: Threads + Wait + Sync, S: Source, K: Sink, N: Nvm + Drop + Send>(
     rt: &R,
     alloc: Global,
@@ -85,7 +85,8 @@ pub fn top<R: Threads + Wait + Sync, S: Source, K: Sink, N: Nvm + Drop + Send>(
         (S.left source.old) (S.left source.new) (S.given source.old) (S.given source.new) }
 
     // What becomes of the devices.
-    ensures others { runs_scene (asked_for words.now) ≡ false → OthersStand 1 devices.old.items devices.new.items }
+    ensures others { runs_scene (asked_for words.now) ≡ false
+        → OthersStand 1 devices.old.items devices.new.items }
     ensures others_of_scene { (input : List ℕ) (scene : SceneValue) → runs_scene (asked_for words.now) ≡ true
         → S.left source.old ≡ Some input → outcome input ≡ Ok scene
         → OthersStand (length scene.cards) devices.old.items devices.new.items }
@@ -99,14 +100,16 @@ pub fn top<R: Threads + Wait + Sync, S: Source, K: Sink, N: Nvm + Drop + Send>(
     ensures usage_only { asked_for words.now ≡ None → result ≡ Status.Usage }
     ensures scene { runs_scene (asked_for words.now) ≡ true
         → IfSome (S.left source.old) (λ input. EndsBy result (outcome input)) }
-    ensures scene_only { (at : Where) → result ≡ Status.BadScene at → runs_scene (asked_for words.now) ≡ true }
+    ensures scene_only { (at : Where) → result ≡ Status.BadScene at
+        → runs_scene (asked_for words.now) ≡ true }
     ensures too_large { result ≡ Status.TooLarge Limit.Input
         → IfSome (S.left source.old) (λ input. most_input < length input) }
     ensures too_large_count { result ≡ Status.TooLarge Limit.Input
         → S.given source.new ≡ counted (S.given source.old) (most_input + 1) }
     ensures input_only { (what : Limit) → result ≡ Status.TooLarge what
         → (what ≡ Limit.Input) ⊎ (runs_scene (asked_for words.now) ≡ true) }
-    ensures small { asked_for words.now ≡ Some Request.Apdu → (result ≡ Status.Done) ⊎ (result ≡ Status.WriteFault)
+    ensures small { asked_for words.now ≡ Some Request.Apdu
+        → (result ≡ Status.Done) ⊎ (result ≡ Status.WriteFault)
         → IfSome (S.left source.old) (λ input. length input ≤ most_input) }
     ensures read_fault { result ≡ Status.ReadFault → Rises (S.faults source.old) (S.faults source.new) }
     ensures no_read_fault { result ≢ Status.ReadFault → S.faults source.new ≡ S.faults source.old }
@@ -116,21 +119,25 @@ pub fn top<R: Threads + Wait + Sync, S: Source, K: Sink, N: Nvm + Drop + Send>(
         N.state devices.old.items devices.new.items }
 
     // A text is written, or the sink failed.
-    ensures texts_end { (request : Request) → asked_for words.now ≡ Some request → uses_devices (Some request) ≡ false
-        → (result ≡ Status.Done) ⊎ (result ≡ Status.WriteFault) }
+    ensures texts_end { (request : Request) → asked_for words.now ≡ Some request
+        → uses_devices (Some request) ≡ false → (result ≡ Status.Done) ⊎ (result ≡ Status.WriteFault) }
 
-    // A command over an input that it can serve, with ends that don't fail, is done if memory suffices and no device fails
-    // while it is personalised; over a source that tells nothing, `apdu` is if fewer bytes were given than are too many.
+    // A command over an input that it can serve, with ends that don't fail, is done if memory suffices and no device
+    // fails while it is personalised; over a source that tells nothing, `apdu` is if fewer bytes were given than are
+    // too many.
     ensures complete { (request : Request) (input : List ℕ) → asked_for words.now ≡ Some request
         → S.left source.old ≡ Some input → CanServe request input
-        → ¬ (Rises (S.faults source.old) (S.faults source.new)) → ¬ (Rises (K.faults sink.old) (K.faults sink.new))
+        → ¬ (Rises (S.faults source.old) (S.faults source.new))
+        → ¬ (Rises (K.faults sink.old) (K.faults sink.new))
         → IsEnded result }
-    ensures complete_count { (request : Request) → asked_for words.now ≡ Some request → runs_scene (Some request) ≡ false
-        → S.given source.new < counted (S.given source.old) (most_input + 1)
-        → ¬ (Rises (S.faults source.old) (S.faults source.new)) → ¬ (Rises (K.faults sink.old) (K.faults sink.new))
+    ensures complete_count { (request : Request) → asked_for words.now ≡ Some request
+        → runs_scene (Some request) ≡ false → S.given source.new < counted (S.given source.old) (most_input + 1)
+        → ¬ (Rises (S.faults source.old) (S.faults source.new))
+        → ¬ (Rises (K.faults sink.old) (K.faults sink.new))
         → IsEnded result }
     ensures ends { (request : Request) → asked_for words.now ≡ Some request
-        → ¬ (Rises (S.faults source.old) (S.faults source.new)) → ¬ (Rises (K.faults sink.old) (K.faults sink.new))
+        → ¬ (Rises (S.faults source.old) (S.faults source.new))
+        → ¬ (Rises (K.faults sink.old) (K.faults sink.new))
         → IsEnded result ⊎ IsRefused result }
 {
     if words.ask_for_threads() {
@@ -143,8 +150,8 @@ pub fn top<R: Threads + Wait + Sync, S: Source, K: Sink, N: Nvm + Drop + Send>(
     }
 }
 
-/// Does what `top` does, but without threads: to it `run` is no command. Its clauses are those of `top` for the command that
-/// the words are to it, `plainly_asked`.
+/// Does what `top` does, but without threads: to it `run` is no command. Its clauses are those of `top` for the command
+/// that the words are to it, `plainly_asked`.
 pub fn plain<S: Source, K: Sink, N: Nvm + Drop>(
     alloc: Global,
     words: &Words,
@@ -172,7 +179,8 @@ pub fn plain<S: Source, K: Sink, N: Nvm + Drop>(
         (S.left source.old) (S.left source.new) (S.given source.old) (S.given source.new) }
 
     // What becomes of the devices.
-    ensures others { runs_scene (plainly_asked words.now) ≡ false → OthersStand 1 devices.old.items devices.new.items }
+    ensures others { runs_scene (plainly_asked words.now) ≡ false
+        → OthersStand 1 devices.old.items devices.new.items }
     ensures others_of_scene { (input : List ℕ) (scene : SceneValue) → runs_scene (plainly_asked words.now) ≡ true
         → S.left source.old ≡ Some input → outcome input ≡ Ok scene
         → OthersStand (length scene.cards) devices.old.items devices.new.items }
@@ -186,14 +194,16 @@ pub fn plain<S: Source, K: Sink, N: Nvm + Drop>(
     ensures usage_only { plainly_asked words.now ≡ None → result ≡ Status.Usage }
     ensures scene { runs_scene (plainly_asked words.now) ≡ true
         → IfSome (S.left source.old) (λ input. EndsBy result (outcome input)) }
-    ensures scene_only { (at : Where) → result ≡ Status.BadScene at → runs_scene (plainly_asked words.now) ≡ true }
+    ensures scene_only { (at : Where) → result ≡ Status.BadScene at
+        → runs_scene (plainly_asked words.now) ≡ true }
     ensures too_large { result ≡ Status.TooLarge Limit.Input
         → IfSome (S.left source.old) (λ input. most_input < length input) }
     ensures too_large_count { result ≡ Status.TooLarge Limit.Input
         → S.given source.new ≡ counted (S.given source.old) (most_input + 1) }
     ensures input_only { (what : Limit) → result ≡ Status.TooLarge what
         → (what ≡ Limit.Input) ⊎ (runs_scene (plainly_asked words.now) ≡ true) }
-    ensures small { plainly_asked words.now ≡ Some Request.Apdu → (result ≡ Status.Done) ⊎ (result ≡ Status.WriteFault)
+    ensures small { plainly_asked words.now ≡ Some Request.Apdu
+        → (result ≡ Status.Done) ⊎ (result ≡ Status.WriteFault)
         → IfSome (S.left source.old) (λ input. length input ≤ most_input) }
     ensures read_fault { result ≡ Status.ReadFault → Rises (S.faults source.old) (S.faults source.new) }
     ensures no_read_fault { result ≢ Status.ReadFault → S.faults source.new ≡ S.faults source.old }
@@ -203,21 +213,25 @@ pub fn plain<S: Source, K: Sink, N: Nvm + Drop>(
         N.state devices.old.items devices.new.items }
 
     // A text is written, or the sink failed.
-    ensures texts_end { (request : Request) → plainly_asked words.now ≡ Some request → uses_devices (Some request) ≡ false
-        → (result ≡ Status.Done) ⊎ (result ≡ Status.WriteFault) }
+    ensures texts_end { (request : Request) → plainly_asked words.now ≡ Some request
+        → uses_devices (Some request) ≡ false → (result ≡ Status.Done) ⊎ (result ≡ Status.WriteFault) }
 
-    // A command over an input that it can serve, with ends that don't fail, is done if memory suffices and no device fails
-    // while it is personalised; over a source that tells nothing, `apdu` is if fewer bytes were given than are too many.
+    // A command over an input that it can serve, with ends that don't fail, is done if memory suffices and no device
+    // fails while it is personalised; over a source that tells nothing, `apdu` is if fewer bytes were given than are
+    // too many.
     ensures complete { (request : Request) (input : List ℕ) → plainly_asked words.now ≡ Some request
         → S.left source.old ≡ Some input → CanServe request input
-        → ¬ (Rises (S.faults source.old) (S.faults source.new)) → ¬ (Rises (K.faults sink.old) (K.faults sink.new))
+        → ¬ (Rises (S.faults source.old) (S.faults source.new))
+        → ¬ (Rises (K.faults sink.old) (K.faults sink.new))
         → IsEnded result }
-    ensures complete_count { (request : Request) → plainly_asked words.now ≡ Some request → runs_scene (Some request) ≡ false
-        → S.given source.new < counted (S.given source.old) (most_input + 1)
-        → ¬ (Rises (S.faults source.old) (S.faults source.new)) → ¬ (Rises (K.faults sink.old) (K.faults sink.new))
+    ensures complete_count { (request : Request) → plainly_asked words.now ≡ Some request
+        → runs_scene (Some request) ≡ false → S.given source.new < counted (S.given source.old) (most_input + 1)
+        → ¬ (Rises (S.faults source.old) (S.faults source.new))
+        → ¬ (Rises (K.faults sink.old) (K.faults sink.new))
         → IsEnded result }
     ensures ends { (request : Request) → plainly_asked words.now ≡ Some request
-        → ¬ (Rises (S.faults source.old) (S.faults source.new)) → ¬ (Rises (K.faults sink.old) (K.faults sink.new))
+        → ¬ (Rises (S.faults source.old) (S.faults source.new))
+        → ¬ (Rises (K.faults sink.old) (K.faults sink.new))
         → IsEnded result ⊎ IsRefused result }
 {
     match words.request() {
