@@ -39,17 +39,17 @@ open(dir + "/turns", "w").write("".join(card(k).replace("]\n\n", '  { tag = "5FC
     + script(0, "r0", 4094 * ["get h " + prefix + "2.1.1"]))
 
 # The largest input: a card and scripts without lines, each with a name of its own until 8 MiB are full; cards; tags; a long line.
-def filled(head, each):
-    text, size, k = [head], len(head), 0
+def filled(head, each, tail=""):
+    text, size, k = [head], len(head) + len(tail), 0
     while True:
         part = each(k)
         if size + len(part) > 8 << 20:
-            return "".join(text)
+            return "".join(text) + tail
         text.append(part); size += len(part); k += 1
 open(dir + "/scripts", "w").write(filled(card(0), lambda k: '[[script]]\nname = "s%d"\n' % k))
 open(dir + "/cards", "w").write(filled("", lambda k: '[[card]]\nname = "c%d"\ncontact = "r%d"\n' % (k, k)))
 open(dir + "/tables", "w").write(filled(card(0), lambda k: "[other.k%d]\n" % k))
-open(dir + "/lines", "w").write(filled(card(0) + '[[script]]\nname = "s"\nlines = [\n', lambda k: '"get h %s2.48.%d",\n' % (prefix, k)) + "]\n")
+open(dir + "/lines", "w").write(filled(card(0) + '[[script]]\nname = "s"\nlines = [\n', lambda k: '"get h %s2.48.%d",\n' % (prefix, k), "]\n"))
 open(dir + "/brackets", "w").write("[" * (8 << 20))
 
 # The largest scene: 8 MiB of which every line is played.
