@@ -1,13 +1,12 @@
 -- What is so of the reading of an input, whatever the scene.
-use Rattle.std.proofs.Common.{◌≡◌, ◌<◌, ◌≤◌, ◌+◌, ℕ, Bool, true, false, List, [], ◌∷◌, length, Option, Some, None, Result, Ok, Err, refl, ap, ◌∙◌, arith}
-use Rattle.std.specs.Prelude.{nat_lt, if◌then◌else◌}
+use Rattle.std.proofs.Common.{◌≡◌, ◌≤◌, ℕ, Bool, true, false, List, [], ◌∷◌, length, Option, Some, None, Result, Ok, Err, ap, ◌∙◌}
+use Rattle.std.specs.Prelude.{if◌then◌else◌}
 use Rattle.std.specs.List.{AllByRecursion}
 use Rattle.std.specs.Option.{option_or}
-use Rattle.std.proofs.lemmas.Bool.{le-ltb, lt-ltb}
+use Rattle.std.proofs.lemmas.Bool.{le-ltb}
 use Rattle.piv_model.specs.declared.places.Limit.{Limit}
 use Rattle.piv_model.specs.declared.places.Limit.TheVariants as limit
 use Rattle.piv_model.specs.declared.places.Where.{Where}
-use Rattle.scene_table.specs.declared.fault.SceneFault.{SceneFault}
 use Rattle.scene_table.specs.declared.fault.SceneFault.TheVariants as fault
 use Rattle.scene_cards.specs.Cards.{CardData}
 use Rattle.scene_cards.specs.CardLimits.{Test, first_passed, card_tests, card_limit, cards_limit}
