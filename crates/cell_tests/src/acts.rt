@@ -1,8 +1,10 @@
-// The acts on a cell, over a store in memory.
-use crate::cells::{is_history, plain_cell};
-use crate::rows::expect;
+// The acts on a cell.
+use crate::cells::{losing_cell, plain_cell};
+use crate::histories::printed;
+use crate::rows::{expect, expect_over_each};
 use piv_model::RefId;
 use std::test::Fail;
+use twin_store::Twins;
 
 #[test]
 fn acts_are_answered_in_the_order_of_their_table(rt: HostRuntime) -> Result<(), Fail> {
@@ -16,17 +18,29 @@ fn acts_are_answered_in_the_order_of_their_table(rt: HostRuntime) -> Result<(), 
         power off = cut
         2 0 chuid = mute 1
         reset contact = off
-        power up = Nothing
+        power up = nothing
         power up = on
         2 1 chuid = 6D00
         close 1 = closed
         close 1 = no connection
     ";
-    let mut cell = plain_cell(rt.alloc(), 20)?;
-    expect(&rt, rt.alloc(), &mut cell, rows)?;
-    assert!(rt; is_history(&cell, b"onoznc-nn+ncxn"));
-    assert!(rt; cell.room() == 6);
-    Ok(())
+    let history = "
+        opened 1 contact exclusive
+        note connect contact locked
+        opened 2 contactless shared
+        reset contact
+        note exchange 1 stale
+        call 1 A4 04 00 A000000308000010000100 9000 -
+        cut
+        note exchange 2 mute
+        note reset contact off
+        up nothing
+        note power on
+        call 2 CB 3F FF 5C035FC102 6D00 -
+        closed 1
+        note disconnect 1 noconnection
+    ";
+    expect_over_each(&rt, rt.alloc(), 20, rows, history)
 }
 
 #[test]
@@ -55,7 +69,7 @@ fn a_connection_is_locked_by_an_exclusive_one_on_its_interface(
 
 #[test]
 fn sixteen_are_open_over_both_interfaces(rt: HostRuntime) -> Result<(), Fail> {
-    let mut cell = plain_cell(rt.alloc(), 40)?;
+    let alloc = rt.alloc();
     let rows = "
         shared contact = 1 0
         shared contactless = 2 0
@@ -81,7 +95,9 @@ fn sixteen_are_open_over_both_interfaces(rt: HostRuntime) -> Result<(), Fail> {
         3 0 chuid = no connection
         17 0 chuid = 6D00
     ";
-    expect(&rt, rt.alloc(), &mut cell, rows)
+    expect(&rt, alloc, &mut plain_cell(alloc, 40)?, rows)?;
+    let mut twins = losing_cell::<Twins>(alloc, 40, Vec::new(alloc))?;
+    expect(&rt, alloc, &mut twins, rows)
 }
 
 #[test]
@@ -94,11 +110,12 @@ fn the_turns_end_in_the_middle_of_a_chain(rt: HostRuntime) -> Result<(), Fail> {
         close 1 = full
         power off = full
     ";
-    let mut cell = plain_cell(rt.alloc(), 3)?;
-    expect(&rt, rt.alloc(), &mut cell, rows)?;
-    assert!(rt; is_history(&cell, b"ocp"));
-    assert!(rt; cell.room() == 0);
-    Ok(())
+    let history = "
+        opened 1 contact shared
+        call 1 A4 04 00 A000000308000010000100 9000 -
+        part 1
+    ";
+    expect_over_each(&rt, rt.alloc(), 3, rows, history)
 }
 
 #[test]
@@ -113,7 +130,7 @@ fn an_epoch_is_stale_after_resets_and_losses_of_its_own_side(rt: HostRuntime) ->
         1 1 select = stale 2
         1 2 select = template
         power off = cut
-        power up = Nothing
+        power up = nothing
         1 2 query = stale 3
         2 0 query = stale 1
         1 7 query = 6D00
@@ -132,7 +149,7 @@ fn connections_are_closed_but_not_opened_without_power(rt: HostRuntime) -> Resul
         close 1 = closed
         1 0 select = no connection
         power off = off
-        power up = Nothing
+        power up = nothing
         shared contact = 2 1
     ";
     expect(&rt, rt.alloc(), &mut plain_cell(rt.alloc(), 20)?, rows)
@@ -174,9 +191,25 @@ fn a_cell_moves_between_threads(rt: HostRuntime) -> Result<(), Fail> {
     expect(&rt, rt.alloc(), &mut cell, "shared contact = 1 0")?;
     let (store, history) = cell.into_parts();
     let _ = moves(store);
-    let history = moves(history);
-    assert!(rt; history.len() == 1);
-    let copy = history.copy()?;
-    assert!(rt; copy.len() == 1);
+    let _ = moves(history);
+    Ok(())
+}
+
+#[test]
+fn a_copied_history_has_the_same_entries(rt: HostRuntime) -> Result<(), Fail> {
+    let alloc = rt.alloc();
+    let mut cell = plain_cell(alloc, 5)?;
+    let rows = "
+        exclusive contact = 1 0
+        1 0 select = template
+        1 0 part = 9000
+        power off = cut
+        power up = nothing
+    ";
+    expect(&rt, alloc, &mut cell, rows)?;
+    let history = printed(alloc, cell.history())?;
+    let copy = printed(alloc, &cell.history().copy()?)?;
+    assert!(rt; copy.taken() == history.taken());
+    assert!(rt; copy.taken().ends_with(b"part 1\ncut\nup nothing\n"));
     Ok(())
 }

@@ -6,7 +6,7 @@ use card_cell::CardCell;
 use card_image::{Image, Objects};
 use memory_store::MemoryStore;
 use nvm_device::{Fused, Loss, MemNvm};
-use piv_model::{Entry, Found, Store, plain_start};
+use piv_model::{Found, plain_start};
 use std::alloc::Global;
 use std::test::Fail;
 
@@ -23,6 +23,7 @@ pub(crate) fn plain_cell(alloc: Global, turns: usize) -> Result<CardCell<MemoryS
 // The plain card on a device that loses power at these writes after it was personalised.
 pub(crate) fn losing_cell<O: Objects>(
     alloc: Global,
+    turns: usize,
     losses: Vec<Loss>,
 ) -> Result<CardCell<Image<Fused<MemNvm>, O>>, Fail>
     requires rises { RisesFrom 0 (write_numbers losses.items) }
@@ -36,38 +37,8 @@ pub(crate) fn losing_cell<O: Objects>(
     let Found::Card(store) = Image::<Fused<MemNvm>, O>::look(worn) else {
         return Err(Fail::from("no card"));
     };
-    match CardCell::new(alloc, store, &start.random, 100) {
+    match CardCell::new(alloc, store, &start.random, turns.min(1_000_000)) {
         Ok(cell) => Ok(cell),
         Err(_) => Err(Fail::from("no memory")),
     }
-}
-
-fn kind(entry: Entry<'_>) -> u8 {
-    match entry {
-        Entry::Opened { .. } => b'o',
-        Entry::Closed { .. } => b'x',
-        Entry::Call { .. } => b'c',
-        Entry::Part { .. } => b'p',
-        Entry::Rest { .. } => b'r',
-        Entry::Bad { .. } => b'b',
-        Entry::Reset { .. } => b'z',
-        Entry::Cut { running: None } => b'-',
-        Entry::Cut { running: Some(_) } => b'!',
-        Entry::Up { .. } => b'+',
-        Entry::Note { .. } => b'n',
-    }
-}
-
-// The kinds of the entries are these.
-pub(crate) fn is_history<S: Store>(cell: &CardCell<S>, kinds: &[u8]) -> bool {
-    let history = cell.history();
-    if history.len() != kinds.len() {
-        return false;
-    }
-    for k in 0..kinds.len() {
-        if kind(history.entry(k)) != kinds[k] {
-            return false;
-        }
-    }
-    true
 }

@@ -10,7 +10,7 @@ use std::test::Fail;
 fn expect_each(rt: &impl Abort, alloc: Global, paragraphs: &str) -> Result<(), Fail> {
     let begin = "shared contact = 1 0\n1 0 select = template";
     for rows in paragraphs.split("\n\n") {
-        let mut cell = losing_cell::<Blocks>(alloc, Vec::new(alloc))?;
+        let mut cell = losing_cell::<Blocks>(alloc, 100, Vec::new(alloc))?;
         expect(rt, alloc, &mut cell, begin)?;
         expect(rt, alloc, &mut cell, rows)?;
     }

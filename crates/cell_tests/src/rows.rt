@@ -1,11 +1,15 @@
 // Rows of text: an act on a cell, and its answer.
+use crate::cells::{losing_cell, plain_cell};
+use crate::histories::expect_history;
 use crate::words::spelled;
+use block_store::Blocks;
 use card_cell::{Act, Answer, CardCell};
 use piv_model::Interface::{Contact, Contactless};
-use piv_model::{Interface, Store};
+use piv_model::{Interface, Store, Took};
 use std::alloc::Global;
 use std::process::Abort;
 use std::test::Fail;
+use twin_store::Twins;
 
 fn interface(word: &str) -> Interface {
     if word == "contact" {
@@ -26,6 +30,14 @@ fn reply(alloc: Global, body: &[u8], sw: u16) -> Result<String, Fail> {
     Ok(hex::encode_upper(alloc, bytes)?)
 }
 
+fn came(took: Took) -> &'static str {
+    match took {
+        Took::Nothing => "nothing",
+        Took::Spent => "spent",
+        Took::Done => "done",
+    }
+}
+
 fn told(alloc: Global, answer: Answer) -> Result<String, Fail> {
     match answer {
         Answer::Full => text(alloc, "full"),
@@ -41,7 +53,7 @@ fn told(alloc: Global, answer: Answer) -> Result<String, Fail> {
         Answer::On => text(alloc, "on"),
         Answer::WasReset => text(alloc, "reset"),
         Answer::WasCut => text(alloc, "cut"),
-        Answer::Up { took } => Ok(format!(in alloc; "{took:?}")?),
+        Answer::Up { took } => text(alloc, came(took)),
     }
 }
 
@@ -122,4 +134,23 @@ pub(crate) fn expect<S: Store>(
         expect_act(rt, alloc, cell, act.trim(), want.trim())?;
     }
     Ok(())
+}
+
+// The same over a store in memory, twin records and blocks; and the lines of the histories.
+pub(crate) fn expect_over_each(
+    rt: &impl Abort,
+    alloc: Global,
+    turns: usize,
+    rows: &str,
+    history: &str,
+) -> Result<(), Fail> {
+    let mut memory = plain_cell(alloc, turns)?;
+    expect(rt, alloc, &mut memory, rows)?;
+    expect_history(rt, alloc, &memory, history)?;
+    let mut twins = losing_cell::<Twins>(alloc, turns, Vec::new(alloc))?;
+    expect(rt, alloc, &mut twins, rows)?;
+    expect_history(rt, alloc, &twins, history)?;
+    let mut blocks = losing_cell::<Blocks>(alloc, turns, Vec::new(alloc))?;
+    expect(rt, alloc, &mut blocks, rows)?;
+    expect_history(rt, alloc, &blocks, history)
 }
