@@ -8,8 +8,6 @@ mod laying;
 mod layout;
 mod putting;
 mod reading;
-#[cfg(test)]
-mod tests;
 mod writing;
 
 pub use form::Blocks;

@@ -5,7 +5,5 @@
 mod card;
 mod exchanging;
 mod slot;
-#[cfg(test)]
-mod tests;
 
 pub use card::{Card, CardFault, Outcome};

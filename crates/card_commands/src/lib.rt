@@ -10,15 +10,11 @@ mod executed;
 mod execution;
 mod general_authenticate;
 mod get_data;
-#[cfg(test)]
-mod history_tests;
 mod laws;
 mod put_data;
 mod recovery;
 mod reset_retry_counter;
 mod select;
-#[cfg(test)]
-mod tests;
 mod traits;
 mod verify;
 

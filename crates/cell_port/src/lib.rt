@@ -8,6 +8,3 @@ mod laws;
 pub use beginnings::Beginnings;
 pub use cells::CellPort;
 pub use laws::owners_have_recorded_all;
-
-#[cfg(test)]
-mod tests;

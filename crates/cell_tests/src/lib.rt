@@ -16,6 +16,8 @@ mod histories;
 #[cfg(test)]
 mod losses;
 #[cfg(test)]
+mod ports;
+#[cfg(test)]
 mod rows;
 #[cfg(test)]
 mod words;

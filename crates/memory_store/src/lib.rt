@@ -6,8 +6,6 @@ mod loss;
 mod memory;
 mod reference;
 mod store;
-#[cfg(test)]
-mod tests;
 mod value;
 
 pub use loss::{Leaves, Loss};

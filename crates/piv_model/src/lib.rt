@@ -3,15 +3,11 @@
 #![tactic(auto)]
 
 mod answers;
-#[cfg(test)]
-mod answers_tests;
 pub mod application_names;
 mod command;
 mod discovery;
 mod found;
 mod history;
-#[cfg(test)]
-mod history_tests;
 mod kinds;
 mod laws;
 pub mod limits;
@@ -21,13 +17,9 @@ mod places;
 mod plain;
 mod reply_bytes;
 mod start;
-#[cfg(test)]
-mod start_tests;
 pub mod status_words;
 mod store;
 mod stored;
-#[cfg(test)]
-mod tests;
 
 pub use answers::ApiAnswer;
 pub use application_names::application_by_name;

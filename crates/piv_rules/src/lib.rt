@@ -24,6 +24,3 @@ pub use laws::{
 pub use lookback::{Asks, Login, Pending, is_break, is_in_force, pending_on, side_of};
 pub use seen::{Counter, Seen, answer_word, conditions_of};
 pub use table::{Conditions, word_of};
-
-#[cfg(test)]
-mod tests;

@@ -5,6 +5,8 @@
 #[cfg(test)]
 mod card;
 #[cfg(test)]
+mod cells;
+#[cfg(test)]
 mod devices;
 #[cfg(test)]
 mod losses;
@@ -16,6 +18,8 @@ mod rows;
 mod runs;
 #[cfg(test)]
 mod scheduled;
+#[cfg(test)]
+mod schedules;
 #[cfg(test)]
 mod story;
 #[cfg(test)]

@@ -7,8 +7,6 @@ mod fault;
 mod first;
 mod handing;
 mod raising;
-#[cfg(test)]
-mod tests;
 mod turns;
 
 pub use bases::cell_base;

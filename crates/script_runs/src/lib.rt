@@ -5,8 +5,6 @@ mod alone;
 mod laws;
 mod players;
 mod scheduled;
-#[cfg(test)]
-mod tests;
 
 pub use alone::play_alone;
 pub use laws::{scheduled_runs_share_out, scripts_use_their_own, shares_never_fill};

@@ -8,12 +8,11 @@ use nvm_device::Nvm;
 use piv_model::{KeyId, Lost, ObjectId, PutFault, RefId, Store, object_by_tag};
 use std::alloc::Global;
 use std::test::Fail;
+use test_starts::GLOBAL_PIN;
 
 pub(crate) const PIN: [u8; 8] = *b"123456\xff\xff";
 
 pub(crate) const NEW_PIN: [u8; 8] = *b"6543210\xff";
-
-pub(crate) const GLOBAL_PIN: [u8; 8] = *b"987654\xff\xff";
 
 pub(crate) const PUK: [u8; 8] = *b"12345678";
 
@@ -40,7 +39,7 @@ pub(crate) struct Bench<S: Store> {
 
 // The power is off behind a call that is lost.
 #[tactic(auto, unfolding(piv_model::specs::Forms::is_pin))]
-fn made<S: Store>(store: &mut S, call: &Call<'_>) -> Result<(), PutFault>
+pub(crate) fn made<S: Store>(store: &mut S, call: &Call<'_>) -> Result<(), PutFault>
     requires on { (S.state store.old).power.on ≡ true }
     requires untold { (S.state store.old).mem ≡ None }
     ensures on { (result ≡ Err PowerLost → ⊥) → (S.state store.new).power.on ≡ true }

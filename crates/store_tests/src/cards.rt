@@ -4,14 +4,15 @@ ghost use Rattle.power_loss.specs.Due.{RisesFrom};
 ghost use Rattle.power_loss.specs.Plans.{write_numbers};
 ghost use Rattle.piv_model.specs.Starts.{SpellsMemory};
 
-use crate::bench::{Bench, GLOBAL_PIN};
+use crate::bench::Bench;
 use crate::untold::Untold;
 use card_image::{Image, Objects};
 use memory_store::MemoryStore;
 use nvm_device::{Fused, Loss, Nvm};
-use piv_model::{Found, NoMemory, ObjectId, Start, StartGlobal, Store, object_by_tag, plain_start};
+use piv_model::{Found, NoMemory, ObjectId, Start, Store, object_by_tag, plain_start};
 use std::alloc::Global;
 use std::test::Fail;
+use test_starts::global_start;
 
 // A store on a device that loses the writes of a plan.
 pub(crate) type Stored<O> = Image<Fused<Untold>, O>;
@@ -24,23 +25,11 @@ pub(crate) enum Kind {
     Global,
 }
 
-// The plain card's start with a Global PIN of four tries.
-fn global_start(alloc: Global) -> Result<Start, NoMemory>
-    ensures { IfOk result (λ start. SpellsMemory start) }
-{
-    let mut start = plain_start(alloc)?;
-    start.global = StartGlobal {
-        limit: 4,
-        pin: GLOBAL_PIN,
-    };
-    Ok(start)
-}
-
 fn start_of(alloc: Global, kind: Kind) -> Result<Start, NoMemory>
     ensures { IfOk result (λ start. SpellsMemory start) }
 {
     if kind == Kind::Global {
-        return global_start(alloc);
+        return global_start(alloc, 4);
     }
     plain_start(alloc)
 }

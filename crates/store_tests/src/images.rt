@@ -1,6 +1,6 @@
 // Images that are kept here as bytes, and are never made anew. Bytes that no layout reads stand there too.
 
-use crate::bench::{Bench, GLOBAL_PIN, NEW_PIN};
+use crate::bench::{Bench, NEW_PIN};
 use crate::cards::object;
 use crate::rows::set_rows;
 use crate::untold::Untold;
@@ -10,6 +10,7 @@ use piv_model::{Found, KeyId, RefId, Store};
 use std::alloc::Global;
 use std::process::Abort;
 use std::test::Fail;
+use test_starts::GLOBAL_PIN;
 use twin_store::Twins;
 
 // Algorithms, keys, and references of layout 1, of which slot 1 is live.

@@ -15,7 +15,11 @@ mod looking;
 #[cfg(test)]
 mod losing;
 #[cfg(test)]
+mod memory;
+#[cfg(test)]
 mod migrating;
+#[cfg(test)]
+mod moving;
 #[cfg(test)]
 mod random;
 mod rows;

@@ -1,7 +1,7 @@
 // Losses at every write of a migration to layout 2.
 ghost use Rattle.std.specs.Prelude.{◌≡◌, ◌<◌, true, None};
 
-use crate::bench::{Bench, GLOBAL_PIN, have_same_secrets, read_alike};
+use crate::bench::{Bench, have_same_secrets, read_alike};
 use crate::cards::{Kind, Stored, in_memory, stored};
 use crate::left::{LEFT, Left, one_loss};
 use block_store::Blocks;
@@ -11,6 +11,7 @@ use piv_model::{Lost, StartGlobal, Store};
 use std::alloc::Global;
 use std::process::Abort;
 use std::test::Fail;
+use test_starts::GLOBAL_PIN;
 use twin_store::Twins;
 
 const GLOBAL: StartGlobal = StartGlobal {

@@ -5,8 +5,6 @@ mod form;
 mod laying;
 mod layout;
 mod records;
-#[cfg(test)]
-mod tests;
 
 pub use form::Twins;
 
