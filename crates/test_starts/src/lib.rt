@@ -1,5 +1,6 @@
 //! What cards begin with in tests: the plain card's start, with one thing changed.
 #![tactic(auto)]
+
 ghost use Rattle.std.specs.Prelude.{◌≤◌, IfOk};
 ghost use Rattle.piv_model.specs.Starts.{SpellsMemory};
 
