@@ -1,4 +1,4 @@
-//! Chains of blocks and of keys.
+// Chains of blocks and of keys.
 ghost use Rattle.std.specs.Prelude.{◌≡◌};
 ghost use Rattle.aes_bench.specs.Chain.{chained, rekeyed};
 

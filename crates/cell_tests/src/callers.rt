@@ -1,4 +1,4 @@
-// Callers that make two turns. What they promise follows from the clauses of a turn, with no proof of their own.
+//! Callers that make two turns. What they promise follows from the clauses of a turn, with no proof of their own.
 ghost use Rattle.std.specs.Prelude.{◌≡◌, ◌≤◌, true};
 ghost use Rattle.piv_model.specs.Base.{Base};
 ghost use Rattle.piv_model.specs.Memory.{reference};
