@@ -10,7 +10,8 @@ ghost use Rattle.piv_rules.specs.Memories.{running, did, filled_by, spent_by, tr
 ghost use Rattle.piv_rules.specs.Lent.{ask_of, past_of};
 
 use crate::asked::{Asked, Purpose};
-use crate::lookback::Asks;
+use crate::lookback::{Asks, is_mismatched};
+use piv_model::status_words::SUCCESS;
 use piv_model::{Command, Entry, RefId, Took};
 
 /// The command that the last loss of power cut short.
@@ -30,10 +31,12 @@ pub fn running_at<'a>(entries: &[Entry<'a>]) -> Option<(u32, Command<'a>)>
 fn took_at(word: u16) -> Took
     ensures { result ≡ took_by word }
 {
-    match word {
-        0x9000 => Took::Done,
-        0x63C0..=0x63CF => Took::Spent,
-        _ => Took::Nothing,
+    if word == SUCCESS {
+        Took::Done
+    } else if is_mismatched(word) {
+        Took::Spent
+    } else {
+        Took::Nothing
     }
 }
 

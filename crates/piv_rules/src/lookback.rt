@@ -6,10 +6,12 @@ ghost use Rattle.piv_model.specs.Entries.{entry_of};
 ghost use Rattle.piv_model.specs.Base.{Base, Profile, profile};
 ghost use Rattle.piv_rules.specs.Asks.{ask};
 ghost use Rattle.piv_rules.specs.Connections.{side, breaks, by_call};
+ghost use Rattle.piv_rules.specs.StatusWords.{is_mismatched};
 ghost use Rattle.piv_rules.specs.Logins.{compared, ends_if, pin_after, global_after, admin_after, in_force, login_after, pending, pending_by};
 ghost use Rattle.piv_rules.specs.Lent.{ask_of, past_of, pending_of};
 
 use crate::asked::{Asked, Purpose};
+use piv_model::status_words::{SECURITY_STATUS_NOT_SATISFIED, SUCCESS, verification_failed};
 use piv_model::{Application, Command, Entry, Interface, RefId};
 
 /// A login of a connection: by the PIN, by the Global PIN, by the administration key.
@@ -67,14 +69,23 @@ pub fn is_break(entry: &Entry<'_>, before: &[Entry<'_>], c: u32) -> bool
     }
 }
 
+// The word tells that a comparison failed.
+pub(crate) fn is_mismatched(sw: u16) -> bool
+    ensures { result ≡ is_mismatched sw }
+{
+    verification_failed(0) <= sw && sw <= verification_failed(15)
+}
+
 // What a comparison says of the login of its reference.
 fn compared(sw: u16) -> Option<bool>
     ensures { result ≡ compared sw }
 {
-    match sw {
-        0x9000 => Some(true),
-        0x63C0..=0x63CF => Some(false),
-        _ => None,
+    if sw == SUCCESS {
+        Some(true)
+    } else if is_mismatched(sw) {
+        Some(false)
+    } else {
+        None
     }
 }
 
@@ -90,9 +101,9 @@ fn pin_said(asked: &Asked<'_>, sw: u16) -> Option<bool>
 {
     match asked {
         Asked::Compare(RefId::Pin, _, Purpose::Verify | Purpose::Change(_)) => compared(sw),
-        Asked::Compare(RefId::Puk, _, Purpose::Unblock(_)) => ends_if(0x63C0 <= sw && sw <= 0x63CF),
-        Asked::Logout(RefId::Pin) => ends_if(sw == 0x9000),
-        Asked::Select(Application::Idle) => ends_if(sw == 0x9000),
+        Asked::Compare(RefId::Puk, _, Purpose::Unblock(_)) => ends_if(is_mismatched(sw)),
+        Asked::Logout(RefId::Pin) => ends_if(sw == SUCCESS),
+        Asked::Select(Application::Idle) => ends_if(sw == SUCCESS),
         _ => None,
     }
 }
@@ -102,7 +113,7 @@ fn global_said(asked: &Asked<'_>, sw: u16) -> Option<bool>
 {
     match asked {
         Asked::Compare(RefId::GlobalPin, _, Purpose::Verify | Purpose::Change(_)) => compared(sw),
-        Asked::Logout(RefId::GlobalPin) => ends_if(sw == 0x9000),
+        Asked::Logout(RefId::GlobalPin) => ends_if(sw == SUCCESS),
         _ => None,
     }
 }
@@ -112,13 +123,13 @@ fn admin_said(asked: &Asked<'_>, sw: u16, block: Option<[u8; 16]>) -> Option<boo
 {
     match asked {
         Asked::External(_) | Asked::Mutual(_, _) => {
-            if sw == 0x9000 {
+            if sw == SUCCESS {
                 Some(true)
             } else {
-                ends_if(block.is_some() || sw == 0x6982)
+                ends_if(block.is_some() || sw == SECURITY_STATUS_NOT_SATISFIED)
             }
         }
-        Asked::Select(Application::Idle) => ends_if(block.is_some() || sw == 0x9000),
+        Asked::Select(Application::Idle) => ends_if(block.is_some() || sw == SUCCESS),
         _ => ends_if(block.is_some()),
     }
 }

@@ -2,6 +2,11 @@
 ghost use Rattle.std.specs.Prelude.{◌≡◌, ◌≤◌};
 ghost use Rattle.piv_rules.specs.Answers.{word_by};
 
+use piv_model::status_words::{
+    AUTHENTICATION_METHOD_BLOCKED, INCORRECT_DATA, INSTRUCTION_NOT_SUPPORTED, NOT_ENOUGH_MEMORY,
+    NOT_FOUND, SECURITY_STATUS_NOT_SATISFIED, SUCCESS, verification_failed,
+};
+
 /// What the lines of the table test of an ask in a situation, and the tries that its words tell.
 #[derive(Clone, Copy, Debug)]
 pub struct Conditions {
@@ -28,26 +33,26 @@ pub fn word_of(conditions: &Conditions) -> u16
     ensures { result ≡ word_by conditions.now }
 {
     if !conditions.piv {
-        0x6D00
+        INSTRUCTION_NOT_SUPPORTED
     } else if let Some(word) = conditions.refusal {
         word
     } else if !conditions.permitted {
-        0x6982
+        SECURITY_STATUS_NOT_SATISFIED
     } else if conditions.lacks_pending {
-        0x6A80
+        INCORRECT_DATA
     } else if conditions.wrong {
-        0x6982
+        SECURITY_STATUS_NOT_SATISFIED
     } else if conditions.blocked {
-        0x6983
+        AUTHENTICATION_METHOD_BLOCKED
     } else if conditions.differs {
-        0x63C0 + (conditions.tries.saturating_sub(1) as u16)
+        verification_failed(conditions.tries.saturating_sub(1))
     } else if conditions.unknown_login {
-        0x63C0 + (conditions.tries as u16)
+        verification_failed(conditions.tries)
     } else if conditions.absent {
-        0x6A82
+        NOT_FOUND
     } else if conditions.no_room {
-        0x6A84
+        NOT_ENOUGH_MEMORY
     } else {
-        0x9000
+        SUCCESS
     }
 }
