@@ -3,7 +3,7 @@ use Rattle.std.specs.Prelude.{◌≡◌, ℕ, Bool, not, List, Option, Some, Non
 use Rattle.piv_model.specs.declared.kinds.Interface.{Interface}
 use Rattle.piv_model.specs.declared.kinds.Took.{Took}
 use Rattle.piv_model.specs.Commands.{CardCommand}
-use Rattle.piv_model.specs.Entries.{Past, ◌▸◌, Up}
+use Rattle.piv_model.specs.Entries.{◌▸◌, Up}
 use Rattle.piv_model.specs.Memory.{Memory}
 use Rattle.piv_model.specs.Base.{Base}
 use Rattle.piv_rules.specs.Connections.{on, is_open, side}
@@ -52,8 +52,3 @@ pub record StandsFor (B : Base) (R : Records) (card : CardState) (attached : ℕ
   pub connections : (c : ℕ) → attached c ≡ (if is_open (entries R) c then Some (attached_of B R c) else None)
   pub memory : IsTrue card.on → card.memory ≡ Some (mem B (entries R))
   pub off : IsTrue (not card.on) → WillTake B R card
-
--- a card whose store tells nothing: its history is that of the records, and its turns are as many as it was given
-pub record StandsUntold (given : ℕ) (R : Records) (history : Past) (count : ℕ) : Type 0 where
-  pub past : history ≡ entries R
-  pub turns : count ≡ given
