@@ -1,4 +1,4 @@
-// CHANGE REFERENCE DATA (SP 800-73-4 part 2).
+// CHANGE REFERENCE DATA (SP 800-73-4 part 2, 3.2.2).
 ghost use Rattle.std.specs.Prelude.{◌≡◌, Bool, IfSome};
 ghost use Rattle.piv_model.specs.Commands.{command_of};
 ghost use Rattle.piv_rules.specs.Asks.{changed_reference, change_form, change_ask};

@@ -1,4 +1,4 @@
-// GENERAL AUTHENTICATE (SP 800-73-4 part 2).
+// GENERAL AUTHENTICATE (SP 800-73-4 part 2, 3.2.4).
 ghost use Rattle.std.specs.Prelude.{◌≡◌, Bool, true, false, [], List, ℕ, None, Some, IsTrue, IfSome, option_map, option_and_then};
 ghost use Rattle.ber_tlv.specs.Elements.{elements_of};
 ghost use Rattle.piv_model.specs.declared.kinds.Interface.{Interface};

@@ -1,4 +1,4 @@
-// GET DATA (SP 800-73-4 part 2).
+// GET DATA (SP 800-73-4 part 2, 3.1.2).
 ghost use Rattle.std.specs.Prelude.{◌≡◌, Bool, true, IsTrue, [], Some, List, ℕ, option_and_then};
 ghost use Rattle.ber_tlv.specs.Elements.{elements_of};
 ghost use Rattle.piv_model.specs.Commands.{command_of};

@@ -1,4 +1,4 @@
-// PUT DATA (SP 800-73-4 part 2).
+// PUT DATA (SP 800-73-4 part 2, 3.3.1).
 ghost use Rattle.std.specs.Prelude.{◌≡◌, ◌≢◌, ◌∷◌, Bool, true, IsTrue, IfOk, IfSome, is_some, [], Some, None, List, ℕ, option_and_then, if◌then◌else◌};
 ghost use Rattle.ber_tlv.specs.Elements.{elements_of};
 ghost use Rattle.piv_model.specs.Base.{Profile};

@@ -1,4 +1,4 @@
-// RESET RETRY COUNTER (SP 800-73-4 part 2).
+// RESET RETRY COUNTER (SP 800-73-4 part 2, 3.2.3).
 ghost use Rattle.std.specs.Prelude.{◌≡◌, Bool};
 ghost use Rattle.piv_model.specs.Commands.{command_of};
 ghost use Rattle.piv_rules.specs.Asks.{unblock_ask};

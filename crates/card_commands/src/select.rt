@@ -1,4 +1,4 @@
-// SELECT (SP 800-73-4 part 2).
+// SELECT (SP 800-73-4 part 2, 3.1.1).
 ghost use Rattle.std.specs.Prelude.{◌≡◌, IsTrue, [], List, ℕ, IfErr, MatchResult};
 ghost use Rattle.piv_model.specs.declared.kinds.Interface.{Interface};
 ghost use Rattle.piv_model.specs.Commands.{command_of};

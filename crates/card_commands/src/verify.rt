@@ -1,4 +1,4 @@
-// VERIFY (SP 800-73-4 part 2).
+// VERIFY (SP 800-73-4 part 2, 3.2.1).
 ghost use Rattle.std.specs.Prelude.{◌≡◌, Bool, true, [], List, ℕ, Some, None, IsTrue, IfSome};
 ghost use Rattle.piv_model.specs.declared.kinds.Interface.{Interface};
 ghost use Rattle.piv_model.specs.Commands.{command_of};

@@ -1,5 +1,5 @@
 -- What a command asks, before anything is known of the connection that sends it. In each table the first test that
--- fits decides (SP 800-73-4 part 2, the commands of the card edge; the order of the tests is this project's own).
+-- fits decides (SP 800-73-4 part 2, whose sections are named; the order of the tests is this project's own).
 use Rattle.std.specs.Prelude.{ℕ, Bool, not, ◌&&◌, ◌||◌, ◌==◌, List, length, take, drop, Option, Some, None, option_and_then, if◌then◌else◌}
 use Rattle.ber_tlv.specs.Elements.{Element, elements_of}
 use Rattle.piv_model.specs.declared.kinds.Application.{Application}
@@ -58,7 +58,7 @@ keyed (Some key) f = f key
 abbrev pub is_at : CardCommand → ℕ → ℕ → Bool
 is_at k p1 p2 = (k.p1 == p1) && (k.p2 == p2)
 
--- SELECT; 6A 82 where no application has the name
+-- SELECT (3.1.1); 6A 82 where no application has the name
 abbrev pub named : Option Application → Ask
 named None = Refused 0x6A82
 named (Some a) = Select a
@@ -68,13 +68,13 @@ select_ask k =
     if not (is_at k 0x04 0x00) then Refused 0x6A86
     else named (application_named k.body)
 
--- GET DATA
+-- GET DATA (3.1.2)
 abbrev pub get_ask : CardCommand → Ask
 get_ask k =
     if not (is_at k 0x3F 0xFF) then Refused 0x6A86
     else formed (option_and_then tag_named (elements_of k.body)) (λ t. found (place_of t) Get)
 
--- PUT DATA
+-- PUT DATA (3.3.1)
 abbrev pub put_asked : PutForm → Ask
 put_asked (DiscoveryForm v) = Put discovery_place v
 put_asked (ObjectForm t v) = found (place_of t) (λ id. Put id v)
@@ -84,7 +84,7 @@ put_ask m k =
     if not (is_at k 0x3F 0xFF) then Refused 0x6A86
     else formed (option_and_then (put_named m) (elements_of k.body)) put_asked
 
--- VERIFY: P1 FF without data ends a login, P1 00 without data asks for it, P1 00 with a PIN compares
+-- VERIFY (3.2.1): P1 FF without data ends a login, P1 00 without data asks for it, P1 00 with a PIN compares
 abbrev pub verified_reference : Profile → ℕ → Option RefId
 verified_reference m p2 =
     if p2 == 0x80 then Some Pin
@@ -103,7 +103,7 @@ verify_ask m k =
     if not ((k.p1 == 0x00) || (k.p1 == 0xFF)) then Refused 0x6A86
     else known (verified_reference m k.p2) (λ r. verify_form r k)
 
--- CHANGE REFERENCE DATA: the old and the new value
+-- CHANGE REFERENCE DATA (3.2.2): the old and the new value
 abbrev pub changed_reference : Profile → ℕ → Option RefId
 changed_reference m p2 = if p2 == 0x81 then Some Puk else verified_reference m p2
 
@@ -117,7 +117,7 @@ change_ask m k =
     if not (k.p1 == 0x00) then Refused 0x6A86
     else known (changed_reference m k.p2) (λ r. change_form r k)
 
--- RESET RETRY COUNTER: the PUK and the new PIN
+-- RESET RETRY COUNTER (3.2.3): the PUK and the new PIN
 abbrev pub unblock_ask : CardCommand → Ask
 unblock_ask k =
     if not (k.p1 == 0x00) then Refused 0x6A86
@@ -125,7 +125,7 @@ unblock_ask k =
     else if is_puk_and_pin k.body then Compare Puk (take 8 k.body) (Unblock (drop 8 k.body))
     else Refused 0x6A80
 
--- GENERAL AUTHENTICATE: the key, and the fields Witness, Challenge and Response of its template
+-- GENERAL AUTHENTICATE (3.2.4): the key, and the fields Witness, Challenge and Response of its template
 abbrev pub key_named : Profile → CardCommand → Option KeyId
 key_named m k =
     if (k.p2 == 0x9B) && (k.p1 == m.admin_algorithm) then Some AdminKey
