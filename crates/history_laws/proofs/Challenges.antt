@@ -1,7 +1,8 @@
 -- Challenges and Witnesses.
-use Rattle.std.proofs.Common.{◌≡◌, ℕ, Bool, true, false, List, [], ◌∷◌, ◌++◌, Option, Some, None, refl, ap, sym, ◌∙◌, arith, unwrap_or, inl, inr, eq-eqb, eqb-true}
-use Rattle.std.specs.Prelude.{if◌then◌else◌, ◌==◌, not, ◌&&◌, ◌⊎◌, ◌↔◌}
+use Rattle.std.proofs.Common.{◌≡◌, ℕ, ◌+◌, Bool, true, false, List, [], ◌∷◌, ◌++◌, Option, Some, None, refl, ap, sym, ◌∙◌, arith, unwrap_or, inl, inr, eq-eqb, eqb-true}
+use Rattle.std.specs.Prelude.{if◌then◌else◌, ◌==◌, not, ◌&&◌, ◌⊎◌, ◌↔◌, cond, count_by}
 use Rattle.std.specs.Str.{bytes_eq}
+use Rattle.std.proofs.lemmas.List.Recursion.{is_count_by}
 use Rattle.std.proofs.lemmas.Slice.Eq.{bytes_eq-Decides}
 use Rattle.piv_model.specs.declared.kinds.Interface.{Interface}
 use Rattle.piv_model.specs.declared.kinds.Interface.TheVariants.{Contact, Contactless}
@@ -12,14 +13,14 @@ use Rattle.piv_rules.specs.StatusWords.{is_granted}
 use Rattle.piv_rules.specs.Asks.{Ask, AskChallenge, External, AskWitness, Mutual, ask}
 use Rattle.piv_rules.specs.Connections.{breaks, by_call}
 use Rattle.piv_rules.specs.Logins.{Pending, NonePending, Challenge, Witness, pending, pending_by, pending_after}
-use Rattle.piv_rules.specs.RandomBlocks.{next_block}
+use Rattle.piv_rules.specs.RandomBlocks.{random_block, draws, draws_count, next_block}
 use Rattle.piv_rules.specs.Answers.{enciphered, answer, Reply}
 use Rattle.piv_rules.specs.AnswerWords.{IsElsewhere, IsReady, IsResponseReply, right_response, right_witness}
 use Rattle.piv_rules.specs.Legal.{IsLegal, IsAllowed, asks_block, block_borne}
 use Rattle.piv_rules.specs.HistoryLaws.{none_since, is_call_on}
 use Rattle.piv_rules.proofs.WordLaws.{ResponseWords-law}
 use Rattle.history_laws.specs.LoginLaws.{requests}
-use Rattle.history_laws.specs.ChallengeLaws.{FollowsRequest, ChallengesFollowRequests, WitnessesFollowRequests, WasCompared, IsResponse, ResponsesAnswerChallenges, MutualsAnswerWitnesses, BlocksComeInTurn, RequestsBearBlocks}
+use Rattle.history_laws.specs.ChallengeLaws.{FollowsRequest, ChallengesFollowRequests, WitnessesFollowRequests, WasCompared, IsResponse, ResponsesAnswerChallenges, MutualsAnswerWitnesses, bears, BlocksComeInTurn, RequestsBearBlocks}
 use Rattle.history_laws.proofs.Openings.{legal-part}
 use Rattle.history_laws.proofs.Writers.{other-command}
 use Rattle.history_laws.proofs.Bools.{and-first, and-last, granted-word, not-true}
@@ -43,12 +44,39 @@ borne B G k word block h = go (asks_block (ask (profile B) k)) (is_granted word)
     go true false asks granted e = absurd (cc)
     go false g asks granted e = absurd (cc)
 
+-- blocks are counted as the definitions count them
+draws-is : (e : CardEntry) → draws e ≡ bears e
+draws-is (Call c k word None) = refl
+draws-is (Call c k word (Some block)) = refl
+draws-is (Opened c i shared) = refl
+draws-is (Closed c) = refl
+draws-is (Part c) = refl
+draws-is (Rest c) = refl
+draws-is (Bad c word) = refl
+draws-is (Reset i) = refl
+draws-is (Cut r) = refl
+draws-is (Up t) = refl
+draws-is (Note a w) = refl
+
+borne_before : Past → ℕ
+borne_before [] = 0
+borne_before (e ∷ G) = cond (bears e) (1 + borne_before G) (borne_before G)
+
+same-count : (G : Past) → draws_count G ≡ count_by bears G
+unfolding borne_before
+same-count G =
+    sym (is_count_by borne_before draws refl (λ e G. rw (draws-is e) refl) G) ∙ is_count_by borne_before bears refl (λ e G. refl) G
+
+same-block : (B : Base) (G : Past) → next_block B G ≡ random_block B.random (count_by bears G)
+same-block B G = ap (random_block B.random) (same-count G)
+
 pub BlocksComeInTurn-law : BlocksComeInTurn
-BlocksComeInTurn-law B L G c k word block legal = borne B G k word block (legal-part B L (Call c k word (Some block) ∷ G) legal).1.3
+BlocksComeInTurn-law B L G c k word block legal =
+    let b = borne B G k word block (legal-part B L (Call c k word (Some block) ∷ G) legal).1.3 in (b.0, b.1, b.2 ∙ same-block B G)
 
 pub RequestsBearBlocks-law : RequestsBearBlocks
 RequestsBearBlocks-law B L G c k block legal asks =
-    (legal-part B L (Call c k 0x9000 block ∷ G) legal).1.3 ∙ rw (same-requests (ask (profile B) k) ∙ asks) refl
+    (legal-part B L (Call c k 0x9000 block ∷ G) legal).1.3 ∙ rw (same-requests (ask (profile B) k) ∙ asks) (ap (λ b. Some b) (same-block B G))
 
 -- ---- what is pending
 

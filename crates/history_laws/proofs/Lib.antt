@@ -12,6 +12,7 @@ pub mod Globals
 pub mod Planned
 pub mod Soundness
 pub mod Pieces
+pub mod Fetching
 pub mod Presented
 pub mod Power
 pub mod Data

@@ -1,16 +1,15 @@
 -- The connections of a card.
 use Rattle.std.proofs.Common.{◌≡◌, ◌≤◌, ◌<◌, ℕ, zero, suc, ◌+◌, Bool, true, false, List, [], ◌∷◌, ◌++◌, refl, ap, sym, ◌∙◌, arith, subst, eq-eqb, eqb-true, add-one, length, Some, None, unwrap_or}
-use Rattle.std.specs.Prelude.{if◌then◌else◌, ◌==◌, not, ◌&&◌, ◌||◌, nat_le, cond}
+use Rattle.std.specs.Prelude.{if◌then◌else◌, ◌==◌, not, ◌&&◌, ◌||◌, nat_le}
 use Rattle.std.specs.List.{list_any}
 use Rattle.std.proofs.lemmas.Bool.Decides.{nat_tests}
-use Rattle.std.proofs.lemmas.List.Recursion.{is_count_by}
 use Rattle.piv_model.specs.declared.kinds.Interface.{Interface}
 use Rattle.piv_model.specs.declared.kinds.Interface.TheVariants.{Contact, Contactless}
 use Rattle.piv_model.specs.Entries.{CardEntry, Past, Opened, Closed, Call, Part, Rest, Bad, Reset, Cut, Up, Note}
 use Rattle.piv_model.specs.Base.{Base}
 use Rattle.piv_rules.specs.Connections.{is_open, side, is_exclusive, opens, closes, same_side}
 use Rattle.piv_rules.specs.Lookback.{some_entry}
-use Rattle.piv_rules.specs.Legal.{IsLegal, IsAllowed, opened_count, open_among, open_ones, is_opening, is_locked}
+use Rattle.piv_rules.specs.Legal.{IsLegal, IsAllowed, opened_count, open_among, open_ones, is_locked}
 use Rattle.piv_rules.specs.NumberLaws.{is_listed}
 use Rattle.piv_rules.specs.HistoryLaws.{none_since}
 use Rattle.piv_rules.proofs.Numbers.{opened_count-opened, unused-above}

@@ -18,16 +18,18 @@ use Rattle.piv_rules.specs.Effects.{memory_after}
 use Rattle.piv_rules.specs.Memories.{running, mem}
 use Rattle.piv_rules.specs.Answers.{Situation, situation_of, answer, answer_to, Reply}
 use Rattle.piv_rules.specs.Losses.{can_come, MayBeSaid}
-use Rattle.piv_rules.specs.Legal.{IsLegal, IsAllowed}
+use Rattle.piv_rules.specs.Legal.{IsLegal, IsAllowed, is_writer}
 use Rattle.piv_rules.specs.Turns.{called}
 use Rattle.piv_rules.specs.HistoryLaws.{before_loss}
 use Rattle.piv_rules.proofs.Memories.{mem-step}
 use Rattle.piv_rules.proofs.LossLaws.{UpsTellTheMemory-law, OffLeavesTheMemory-law}
-use Rattle.history_laws.specs.RecoveryLaws.{IsOneTryLess, IsCarriedOut, RecoveryKeepsAPrefix, IdleLossesChangeNothing, CanBeSaid, WhatIsLeftCanBeSaid, TheFirstIsSaid}
+use Rattle.history_laws.specs.LoginLaws.{is_miss}
+use Rattle.history_laws.specs.RecoveryLaws.{writes, WritersLosePower, IsOneTryLess, IsCarriedOut, RecoveryKeepsAPrefix, IdleLossesChangeNothing, CanBeSaid, WhatIsLeftCanBeSaid, TheFirstIsSaid}
 use Rattle.history_laws.proofs.Writers.{writer-answer}
 use Rattle.piv_rules.proofs.Limits.{after-spent}
 use Rattle.history_laws.proofs.Tries.{after-nothing}
-use Rattle.history_laws.proofs.Bools.{not-true}
+use Rattle.history_laws.proofs.Bools.{not-true, granted-word, or-last}
+use Rattle.history_laws.proofs.Logins.{miss-is}
 
 -- ---- what is left
 
@@ -246,4 +248,33 @@ TheFirstIsSaid-law a Spent m may =
 TheFirstIsSaid-law a Done m may =
     ((λ h u. absurd (may.1.0 (rw u refl) (h ∙ sym (after-nothing a m)))), (λ can h e. may.1.1 can h))
 
-pub ruleset recovery_laws = (RecoveryKeepsAPrefix-law, IdleLossesChangeNothing-law, WhatIsLeftCanBeSaid-law, TheFirstIsSaid-law)
+-- ---- who loses power
+
+writer-is : (a : Ask) → is_writer a ≡ writes a
+writer-is (Compare r p purpose) = refl
+writer-is (Put id v) = refl
+writer-is a = refl
+
+told-which : (word : ℕ) → (is_granted word || is_mismatched word) ≡ true → (word ≡ 0x9000) ⊎ (is_miss word ≡ true)
+told-which word h = go (is_granted word) refl h
+  where
+    go : (b : Bool) → is_granted word ≡ b → (b || is_mismatched word) ≡ true → (word ≡ 0x9000) ⊎ (is_miss word ≡ true)
+    go true is j = inl (granted-word word is)
+    go false is j = inr (miss-is word ∙ j)
+
+which-told : (word : ℕ) → (word ≡ 0x9000) ⊎ (is_miss word ≡ true) → (is_granted word || is_mismatched word) ≡ true
+which-told word (inl h) = ap (λ w. is_granted w || is_mismatched w) h
+which-told word (inr h) = or-last (is_granted word) (is_mismatched word) (sym (miss-is word) ∙ h)
+
+pub WritersLosePower-law : WritersLosePower
+WritersLosePower-law B G c k = (
+  (λ a. record {
+    powered = a.0;
+    opened = a.1;
+    writer = sym (writer-is (ask (profile B) k)) ∙ a.2;
+    told = told-which (answer B G c k).word a.3;
+  }),
+  (λ w. (w.powered, w.opened, writer-is (ask (profile B) k) ∙ w.writer, which-told (answer B G c k).word w.told)),
+)
+
+pub ruleset recovery_laws = (WritersLosePower-law, RecoveryKeepsAPrefix-law, IdleLossesChangeNothing-law, WhatIsLeftCanBeSaid-law, TheFirstIsSaid-law)

@@ -1,5 +1,5 @@
 -- The tries of a reference over a history.
-use Rattle.std.proofs.Common.{◌≡◌, ℕ, suc, zero, ◌+◌, ◌-◌, ◌≤◌, Bool, true, false, List, [], ◌∷◌, Option, Some, None, refl, ap, arith, sym, ◌∙◌, inl, inr}
+use Rattle.std.proofs.Common.{◌≡◌, ℕ, ◌+◌, ◌-◌, ◌≤◌, Bool, true, false, List, [], ◌∷◌, Option, Some, None, refl, ap, arith, sym, ◌∙◌, inl, inr}
 use Rattle.std.specs.Prelude.{if◌then◌else◌, IsTrue, ◌&&◌, ◌||◌, ◌⊎◌, option_map}
 use Rattle.std.specs.Str.{bytes_eq}
 use Rattle.std.proofs.lemmas.Bool.Decides.{nat_tests}
@@ -10,18 +10,17 @@ use Rattle.piv_model.specs.declared.kinds.Took.TheVariants.{Nothing, Spent, Done
 use Rattle.piv_model.specs.Commands.{CardCommand}
 use Rattle.piv_model.specs.Entries.{CardEntry, Past, Opened, Closed, Call, Part, Rest, Bad, Reset, Cut, Up, Note}
 use Rattle.piv_model.specs.Base.{Base, profile, is_valid}
-use Rattle.piv_model.specs.Memory.{Memory, Reference, reference}
-use Rattle.piv_model.specs.Changes.{change_reference, one_less}
+use Rattle.piv_model.specs.Memory.{Memory, reference}
 use Rattle.piv_rules.specs.StatusWords.{is_granted, is_mismatched}
 use Rattle.piv_rules.specs.Effects.{memory_after, took_by}
-use Rattle.piv_rules.specs.Memories.{same_reference, fills, spends, tries, mem, running, spends_since, tries_at_first, reference_now, did_so, spent_by, filled_by, is_unblock}
+use Rattle.piv_rules.specs.Memories.{same_reference, fills, spends, tries, mem, running, spends_since, tries_at_first, did_so, spent_by, filled_by, is_unblock}
 use Rattle.piv_rules.specs.Lookback.{some_entry}
 use Rattle.piv_rules.specs.Asks.{Ask, Compare, Purpose, Verify, Change, Unblock, ask}
 use Rattle.piv_rules.specs.Answers.{answer, answer_to, Situation, situation_of, is_select, Reply}
 use Rattle.piv_rules.specs.Legal.{IsLegal, IsAllowed}
 use Rattle.piv_rules.specs.Losses.{MayBeSaid}
 use Rattle.piv_rules.proofs.Steps.{tries-step}
-use Rattle.piv_rules.proofs.Limits.{few-tries, tries-mem, same-reference, spent-comparison, after-spent, up-spends}
+use Rattle.piv_rules.proofs.Limits.{few-tries, tries-mem, same-reference, spent-comparison, up-spends}
 use Rattle.piv_rules.proofs.WordLaws.{CompareWords-law}
 use Rattle.history_laws.specs.TriesLaws.{TriesAddUp, TriesAreWithin, IsMatch, IsMatched, OnlyMatchesRaise, MissesTakeOne, MatchesFill, UnblockingsFillThePin, UpsTellTheTries, concerns, in_flight_concerns, MissesLeaveOthers, OthersLeaveTheTries, SpendsHadATry, LossesHadATry}
 use Rattle.history_laws.proofs.Logins.{miss-is}

@@ -1,14 +1,14 @@
 -- Challenges and Witnesses: each block is drawn in its turn, and answered by the next command of its connection or never
 -- (SP 800-73-4 part 2, GENERAL AUTHENTICATE; the order of the blocks is this project's own).
-use Rattle.std.specs.Prelude.{◌≡◌, ◌↔◌, ◌⊎◌, ℕ, true, List, ◌∷◌, ◌++◌, Option, Some}
+use Rattle.std.specs.Prelude.{◌≡◌, ◌↔◌, ◌⊎◌, ℕ, Bool, true, false, List, ◌∷◌, ◌++◌, count_by, Option, Some}
 use Rattle.piv_model.specs.declared.kinds.Interface.TheVariants.{Contact}
 use Rattle.piv_model.specs.Commands.{CardCommand}
-use Rattle.piv_model.specs.Entries.{Past, ◌▸◌, Call}
+use Rattle.piv_model.specs.Entries.{CardEntry, Past, ◌▸◌, Call}
 use Rattle.piv_model.specs.Base.{Base, profile}
 use Rattle.piv_rules.specs.Asks.{Ask, AskChallenge, External, AskWitness, Mutual, ask}
 use Rattle.piv_rules.specs.Connections.{breaks, side}
 use Rattle.piv_rules.specs.Logins.{Challenge, Witness, pending}
-use Rattle.piv_rules.specs.RandomBlocks.{random_block, draws_count}
+use Rattle.piv_rules.specs.RandomBlocks.{random_block}
 use Rattle.piv_rules.specs.Answers.{enciphered}
 use Rattle.piv_rules.specs.Legal.{IsLegal}
 use Rattle.piv_rules.specs.HistoryLaws.{none_since, is_call_on}
@@ -54,14 +54,19 @@ MutualsAnswerWitnesses = (B : Base) (H : Past) (c : ℕ) (k : CardCommand) (word
     → IsLegal B (H ▸ Call c k word block) → ask (profile B) k ≡ Mutual w x → WasCompared B H c word
     → IsResponse B H c AskWitness word (λ b. w ≡ b)
 
+-- a command that bears a block
+abbrev pub bears : CardEntry → Bool
+bears (Call c k word (Some block)) = true
+bears _ = false
+
 -- a command that bears a block is a granted request, and its block is the one whose number is that of those borne before
 abbrev pub BlocksComeInTurn : Type 0
 BlocksComeInTurn = (B : Base) (L G : Past) (c : ℕ) (k : CardCommand) (word : ℕ) (block : List ℕ)
     → IsLegal B (L ++ Call c k word (Some block) ∷ G)
-    → (requests (ask (profile B) k) ≡ true) × (word ≡ 0x9000) × (block ≡ random_block B.random (draws_count G))
+    → (requests (ask (profile B) k) ≡ true) × (word ≡ 0x9000) × (block ≡ random_block B.random (count_by bears G))
 
 -- every granted request bears one
 abbrev pub RequestsBearBlocks : Type 0
 RequestsBearBlocks = (B : Base) (L G : Past) (c : ℕ) (k : CardCommand) (block : Option (List ℕ))
     → IsLegal B (L ++ Call c k 0x9000 block ∷ G) → requests (ask (profile B) k) ≡ true
-    → block ≡ Some (random_block B.random (draws_count G))
+    → block ≡ Some (random_block B.random (count_by bears G))

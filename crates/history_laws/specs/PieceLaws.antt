@@ -1,12 +1,14 @@
 -- The pieces of a reply (ISO/IEC 7816-4, GET RESPONSE).
-use Rattle.std.specs.Prelude.{◌≡◌, ◌↔◌, ◌≤◌, ◌<◌, ℕ, ◌+◌, Bool, true, false, not, ◌&&◌, ◌||◌, ◌==◌, List, [], ◌∷◌, ◌++◌, length, Option, if◌then◌else◌}
+use Rattle.std.specs.Prelude.{◌≡◌, ◌↔◌, ◌≤◌, ◌<◌, ℕ, ◌+◌, Bool, true, false, not, ◌&&◌, ◌||◌, ◌==◌, List, [], ◌∷◌, ◌++◌, length, count_by, Option, if◌then◌else◌}
 use Rattle.piv_model.specs.Commands.{CardCommand}
-use Rattle.piv_model.specs.Entries.{CardEntry, ◌▸◌, Call, Rest}
+use Rattle.piv_model.specs.Entries.{CardEntry, Past, ◌▸◌, Call, Rest}
 use Rattle.piv_model.specs.Base.{Base}
-use Rattle.piv_rules.specs.Connections.{breaks, is_exchange_on}
+use Rattle.piv_rules.specs.Connections.{on, is_open, breaks, is_exchange_on}
 use Rattle.piv_rules.specs.Answers.{answer}
 use Rattle.piv_rules.specs.Acts.{CardAnswer, Replied, CardRecord, Records, entries}
 use Rattle.piv_rules.specs.Frames.{rest}
+use Rattle.piv_rules.specs.HistoryLaws.{none_since}
+use Rattle.piv_rules.specs.Legal.{IsAllowed}
 use Rattle.piv_rules.specs.Turns.{Runs}
 
 -- the data and the word that an act was replied
@@ -55,3 +57,24 @@ pub record IsAnnounced (word left : ℕ) : Type 0 where
 abbrev pub WordsTellWhatIsLeft : Type 0
 WordsTellWhatIsLeft = (B : Base) (R : Records) (r : CardRecord) (c : ℕ) → Runs B (R ▸ r) → GivesData c r.entry
     → IsAnnounced (replied_word r.answer) (length (rest B (R ▸ r) c))
+
+-- an exchange of c that is no piece
+abbrev pub is_other_exchange : ℕ → Past → CardEntry → Bool
+is_other_exchange c G e = is_exchange_on c e && not (is_piece_of c e)
+
+-- the last exchange of c that is no piece is a granted command, with no break of c since; its answer has a byte for its reply, one
+-- for each piece since, and one more
+pub record HasMore (B : Base) (H : Past) (c : ℕ) : Type 0 where
+  pub since : Past
+  pub command : CardCommand
+  pub block : Option (List ℕ)
+  pub before : Past
+  pub whole : H ≡ since ++ Call c command 0x9000 block ∷ before
+  pub alone : none_since (is_other_exchange c) since (Call c command 0x9000 block ∷ before) ≡ true
+  pub unbroken : none_since (breaks c) since (Call c command 0x9000 block ∷ before) ≡ true
+  pub more : count_by (is_piece_of c) since + 2 ≤ length (answer B before c command).body
+
+-- exactly then c may take a piece
+abbrev pub PiecesFollowReplies : Type 0
+PiecesFollowReplies = (B : Base) (H : Past) (c : ℕ)
+    → IsAllowed B H (Rest c) ↔ ((on H ≡ true) × (is_open H c ≡ true) × HasMore B H c)

@@ -1,21 +1,23 @@
 -- What a loss of power leaves, and what may be said of it (this project's own).
-use Rattle.std.specs.Prelude.{◌≡◌, ◌≢◌, ◌⊎◌, ℕ, false, List, Some, None, IsTrue}
+use Rattle.std.specs.Prelude.{◌≡◌, ◌≢◌, ◌⊎◌, ◌↔◌, ℕ, Bool, true, false, List, Some, None, IsTrue}
 use Rattle.piv_model.specs.declared.kinds.RefId.{RefId}
 use Rattle.piv_model.specs.declared.kinds.Took.{Took}
 use Rattle.piv_model.specs.declared.kinds.Took.TheVariants.{Nothing, Spent, Done}
 use Rattle.piv_model.specs.Commands.{CardCommand}
 use Rattle.piv_model.specs.Changes.{change_reference, one_less}
-use Rattle.piv_model.specs.Entries.{Past, ◌▸◌, Up}
+use Rattle.piv_model.specs.Entries.{Past, ◌▸◌, Cut, Up}
 use Rattle.piv_model.specs.Memory.{Memory}
 use Rattle.piv_model.specs.Base.{Base, profile}
-use Rattle.piv_rules.specs.Asks.{Ask, Compare, Purpose, ask}
+use Rattle.piv_rules.specs.Asks.{Ask, Put, Compare, Purpose, ask}
+use Rattle.piv_rules.specs.Connections.{on, is_open}
 use Rattle.piv_rules.specs.Effects.{memory_after}
 use Rattle.piv_rules.specs.Memories.{running, mem}
 use Rattle.piv_rules.specs.Answers.{answer}
 use Rattle.piv_rules.specs.Losses.{can_come, is_unblocking, MayBeSaid}
-use Rattle.piv_rules.specs.Legal.{IsLegal}
+use Rattle.piv_rules.specs.Legal.{IsLegal, IsAllowed}
 use Rattle.piv_rules.specs.Turns.{called}
 use Rattle.piv_rules.specs.HistoryLaws.{before_loss}
+use Rattle.history_laws.specs.LoginLaws.{is_miss}
 
 -- one try less of the reference that the command compares
 pub record IsOneTryLess (B : Base) (G : Past) (k : CardCommand) (m : Memory) : Type 0 where
@@ -29,6 +31,23 @@ pub record IsOneTryLess (B : Base) (G : Past) (k : CardCommand) (m : Memory) : T
 pub record IsCarriedOut (B : Base) (G : Past) (c : ℕ) (k : CardCommand) (m : Memory) : Type 0 where
   pub granted : (answer B G c k).word ≡ 0x9000
   pub gives : m ≡ mem B (G ▸ called B G c k)
+
+-- a comparison and a put alone write
+abbrev pub writes : Ask → Bool
+writes (Compare r p purpose) = true
+writes (Put id v) = true
+writes _ = false
+
+-- a command of an open connection writes, and is granted or misses
+pub record IsWriting (B : Base) (G : Past) (c : ℕ) (k : CardCommand) : Type 0 where
+  pub powered : on G ≡ true
+  pub opened : is_open G c ≡ true
+  pub writer : writes (ask (profile B) k) ≡ true
+  pub told : ((answer B G c k).word ≡ 0x9000) ⊎ (is_miss (answer B G c k).word ≡ true)
+
+-- exactly such a command can lose power
+abbrev pub WritersLosePower : Type 0
+WritersLosePower = (B : Base) (G : Past) (c : ℕ) (k : CardCommand) → IsAllowed B G (Cut (Some (c, k))) ↔ IsWriting B G c k
 
 -- when the power comes back after a loss in a command, the memory is the one before the command, that with one try less of
 -- the reference that it compares, or the one after it

@@ -7,20 +7,19 @@ ghost use Rattle.history_laws.specs.GlobalLaws.{NoCommandNamesIt, ItIsNeverInFor
 ghost use Rattle.history_laws.specs.LoginLaws.{LoginsAreInForce, LoggedInAreInForce, RulesHoldForTheEntitled, PinsArePresented, GlobalPinsArePresented};
 ghost use Rattle.history_laws.specs.MemoryLaws.{MemoriesAreSound, SomeThingsLast};
 ghost use Rattle.history_laws.specs.OpenLaws.{OpenWereOpened, OpenAreListed, AtMostSixteenAreOpen, ExclusiveAreAlone, NumbersAreUsedOnce, ClosedAreClosed};
-ghost use Rattle.history_laws.specs.PieceLaws.{PiecesJoin, WordsTellWhatIsLeft};
+ghost use Rattle.history_laws.specs.PieceLaws.{PiecesJoin, WordsTellWhatIsLeft, PiecesFollowReplies};
 ghost use Rattle.history_laws.specs.PlannedLaws.{LossesAreFew};
 ghost use Rattle.history_laws.specs.PowerLaws.{OffSinceALoss, OffCardsDoNothing, OpenOnesExchange, EpochsTellBreaks};
-ghost use Rattle.history_laws.specs.RecoveryLaws.{RecoveryKeepsAPrefix, IdleLossesChangeNothing, WhatIsLeftCanBeSaid, TheFirstIsSaid};
+ghost use Rattle.history_laws.specs.RecoveryLaws.{WritersLosePower, RecoveryKeepsAPrefix, IdleLossesChangeNothing, WhatIsLeftCanBeSaid, TheFirstIsSaid};
 ghost use Rattle.history_laws.specs.TriesLaws.{TriesAddUp, TriesAreWithin, OnlyMatchesRaise, MissesTakeOne, MatchesFill, UnblockingsFillThePin, UpsTellTheTries, MissesLeaveOthers, OthersLeaveTheTries, SpendsHadATry, LossesHadATry};
 
-/// What a command asks names references that the card has, places that it has, and values of their forms.
+/// What a command asks names references and places that the card has, and values of their forms.
 #[tactic(auto, using(crate::proofs::Asking::ask_laws))]
 pub fn commands_ask_what_the_card_has()
     ensures { AsksAreProper }
 {}
 
-/// A login is in force exactly where a command logged in and nothing since ended it, an access rule holds exactly where the
-/// connection is entitled by it, and who logs in by a PIN presented it.
+/// A login is in force exactly where a command logged in and nothing since ended it, and a rule holds by such logins alone.
 #[tactic(auto, using(crate::proofs::Logins::login_laws, crate::proofs::Presented::presented_laws))]
 pub fn logins_last_until_they_are_ended()
     ensures in_force { LoginsAreInForce }
@@ -30,8 +29,7 @@ pub fn logins_last_until_they_are_ended()
     ensures global_pins { GlobalPinsArePresented }
 {}
 
-/// The tries that are left and those that were spent since the last filling are those that the reference had then: never
-/// above the limit, raised by a match alone, and spent only where one was left.
+/// Tries left and tries spent since the last filling add up; a match alone raises them, and what is spent had a try to spend.
 #[tactic(auto, using(crate::proofs::Tries::tries_laws))]
 pub fn tries_add_up()
     ensures add_up { TriesAddUp }
@@ -47,18 +45,17 @@ pub fn tries_add_up()
     ensures lost { LossesHadATry }
 {}
 
-/// After a loss of power the memory is the one before the command, that with one try less of the reference that it compares,
-/// or the one after it; and whatever it is, the card can say so.
+/// Only a command that writes loses power; the memory is the one before it, that with one try less, or the one after it.
 #[tactic(auto, using(crate::proofs::Recovery::recovery_laws))]
 pub fn recovery_keeps_a_prefix()
+    ensures writers { WritersLosePower }
     ensures prefix { RecoveryKeepsAPrefix }
     ensures idle { IdleLossesChangeNothing }
     ensures said { WhatIsLeftCanBeSaid }
     ensures first { TheFirstIsSaid }
 {}
 
-/// A connection is open from its opening to its closing, under a number of its own; at most sixteen are open, and an exclusive
-/// one is alone on its interface.
+/// A connection is open from its opening to its closing, under a number of its own, one of sixteen, and alone if exclusive.
 #[tactic(auto, using(crate::proofs::Openings::opening_laws))]
 pub fn connections_open_once()
     ensures opened { OpenWereOpened }
@@ -69,8 +66,7 @@ pub fn connections_open_once()
     ensures closed { ClosedAreClosed }
 {}
 
-/// A challenge or a Witness is answered once, rightly or wrongly, by the connection's next command; and the blocks that are
-/// drawn come in their turn.
+/// A challenge or a Witness is answered once, by the connection's next command, and blocks come in their turn.
 #[tactic(auto, using(crate::proofs::Challenges::challenge_laws))]
 pub fn challenges_are_answered_once()
     ensures challenges { ChallengesFollowRequests }
@@ -81,8 +77,7 @@ pub fn challenges_are_answered_once()
     ensures borne { RequestsBearBlocks }
 {}
 
-/// PIV is selected until the idle application is, or a break; a change to idle leaves the login by the Global PIN alone, a
-/// refused command every login, and a break nothing.
+/// PIV is selected until idle is, or a break; idle leaves the Global PIN's login alone, a refusal each, a break nothing.
 #[tactic(auto, using(crate::proofs::Selections::application_laws))]
 pub fn applications_change_by_select()
     ensures selected { SelectionsLast }
@@ -105,23 +100,22 @@ pub fn losses_are_few()
     ensures { LossesAreFew }
 {}
 
-/// A card that begins with a memory that a card can have keeps one, over every legal history, with its keys and its budget.
+/// A card that begins with a memory that a card can have keeps one, with its keys and its budget.
 #[tactic(auto, using(crate::proofs::Soundness::memory_laws))]
 pub fn memories_are_sound()
     ensures sound { MemoriesAreSound }
     ensures lasting { SomeThingsLast }
 {}
 
-/// The data that a reply gave, those of its pieces and those that wait are the data of the answer, and each word tells what is
-/// left.
-#[tactic(auto, using(crate::proofs::Pieces::piece_laws))]
+/// A piece follows a reply; the data of both and those that wait are the answer's, and each word tells what is left.
+#[tactic(auto, using(crate::proofs::Pieces::piece_laws, crate::proofs::Fetching::fetching_laws))]
 pub fn pieces_join()
     ensures join { PiecesJoin }
     ensures words { WordsTellWhatIsLeft }
+    ensures follow { PiecesFollowReplies }
 {}
 
-/// A card is off exactly since a loss of power; then it does nothing, and only an open connection exchanges anything; an epoch
-/// tells whether a connection was broken.
+/// A card is off exactly since a loss of power, and then does nothing; an epoch tells whether a connection was broken.
 #[tactic(auto, using(crate::proofs::Power::power_laws))]
 pub fn power_and_epochs_are_told()
     ensures off { OffSinceALoss }
