@@ -11,7 +11,7 @@ use Rattle.piv_rules.specs.Asks.{ask}
 use Rattle.piv_rules.specs.Channels.{channel}
 use Rattle.piv_rules.specs.Memories.{tries, mem}
 use Rattle.piv_rules.specs.Answers.{answer, answer_in, answer_to}
-use Rattle.history_examples.specs.ActExamples.{ExchangeRefusals, ConnectRefusals, EpochsAreTold, LossesAreMute, NotesHaveCauses}
+use Rattle.history_examples.specs.ActExamples.{ExchangeRefusals, ConnectRefusals, EpochsAreTold, LossesAreMute, NotesHaveCauses, OffIsNotedFirst}
 
 pub ExchangeRefusals-row : ExchangeRefusals
 ExchangeRefusals-row = (refl, refl, refl, refl, refl, refl)
@@ -32,4 +32,7 @@ false-true e = cc
 pub NotesHaveCauses-row : NotesHaveCauses
 NotesHaveCauses-row = (refl, false-true, false-true, false-true, refl, false-true, false-true, false-true, false-true, refl, false-true)
 
-pub ruleset act_rows = (ExchangeRefusals-row, ConnectRefusals-row, EpochsAreTold-row, LossesAreMute-row, NotesHaveCauses-row)
+pub OffIsNotedFirst-row : OffIsNotedFirst
+OffIsNotedFirst-row = (refl, false-true, false-true, false-true, refl, false-true, false-true, false-true, false-true, false-true, false-true)
+
+pub ruleset act_rows = (ExchangeRefusals-row, ConnectRefusals-row, EpochsAreTold-row, LossesAreMute-row, NotesHaveCauses-row, OffIsNotedFirst-row)

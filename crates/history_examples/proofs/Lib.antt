@@ -3,3 +3,6 @@ pub mod RefusalRows
 pub mod PolicyRows
 pub mod BlockRows
 pub mod ActRows
+pub mod FormRows
+pub mod ParameterRows
+pub mod RoomRows

@@ -12,7 +12,7 @@ use Rattle.piv_rules.specs.Channels.{channel}
 use Rattle.piv_rules.specs.Memories.{tries, mem}
 use Rattle.piv_rules.specs.Answers.{answer, answer_in, answer_to}
 use Rattle.piv_rules.specs.Plans.{cost}
-use Rattle.history_examples.specs.LimitExamples.{PieceWords, LongestChain, ChainTooLong, SeventeenthConnection, LastRests, CommandCosts}
+use Rattle.history_examples.specs.LimitExamples.{PieceWords, LongestChain, ChainTooLong, SeventeenthConnection, LastRests, RestsFollowReplies, WordsOfFraming, LossesAreInWriters, CommandCosts}
 
 pub PieceWords-row : PieceWords
 PieceWords-row = (refl, refl, refl, refl, refl)
@@ -36,8 +36,56 @@ pub LastRests-row : LastRests
 unfolding answer answer_in answer_to channel application_named mem tries ask elements_of tag_at length_at value_at parts_at header_of is_pin place_of row_at object_table plain_memory
 LastRests-row = ((refl, refl, omega arith), (λ a. seven-six a.2), (λ a. a.2))
 
+pub RestsFollowReplies-row : RestsFollowReplies
+unfolding answer answer_in answer_to channel application_named mem tries ask elements_of tag_at length_at value_at parts_at header_of is_pin place_of row_at object_table plain_memory
+RestsFollowReplies-row = ((refl, refl, omega arith), (λ a. a.2), (λ a. a.2), (λ a. a.2), (λ a. a.2), (λ a. a.2), (λ a. a.2))
+
+pub WordsOfFraming-row : WordsOfFraming
+WordsOfFraming-row = (
+  (refl, refl, refl),
+  (refl, refl, refl),
+  (refl, refl, refl),
+  (refl, refl, refl),
+  (refl, refl, refl),
+  (refl, refl, refl),
+  (refl, refl, refl),
+  (λ a. false-true a.2),
+  (λ a. false-true a.2),
+  (λ a. false-true a.2),
+  (λ a. false-true a.2),
+  (λ a. false-true a.2),
+  (λ a. false-true a.2),
+  (λ a. false-true a.2),
+  (λ a. false-true a.2),
+  (λ a. false-true a.2),
+)
+
+pub LossesAreInWriters-row : LossesAreInWriters
+unfolding answer answer_in answer_to channel application_named mem tries ask elements_of tag_at length_at value_at parts_at header_of is_pin place_of row_at object_table plain_memory fits
+LossesAreInWriters-row = (
+  (refl, refl, refl, refl),
+  (refl, refl, refl, refl),
+  (λ a. false-true a.3),
+  (λ a. false-true a.2),
+  (λ a. false-true a.2),
+  (λ a. false-true a.2),
+  (λ a. false-true a.2),
+  (λ a. false-true a.3),
+  (λ a. false-true a.1),
+)
+
 pub CommandCosts-row : CommandCosts
 unfolding cost answer answer_in answer_to channel application_named mem tries ask elements_of tag_at length_at value_at parts_at header_of is_pin place_of row_at object_table plain_memory fits
 CommandCosts-row = (refl, refl, refl, refl, refl, refl)
 
-pub ruleset limit_rows = (PieceWords-row, LongestChain-row, ChainTooLong-row, SeventeenthConnection-row, LastRests-row, CommandCosts-row)
+pub ruleset limit_rows = (
+  PieceWords-row,
+  LongestChain-row,
+  ChainTooLong-row,
+  SeventeenthConnection-row,
+  LastRests-row,
+  RestsFollowReplies-row,
+  WordsOfFraming-row,
+  LossesAreInWriters-row,
+  CommandCosts-row,
+)

@@ -79,3 +79,18 @@ NotesHaveCauses =
     × ¬ (IsAllowed plain start (Note kind.Cut why.Off))
     × IsAllowed plain start (Note kind.Power why.On)
     × ¬ (IsAllowed plain (start ▸ Cut None) (Note kind.Power why.On))
+
+-- on a card that is off a Connect is noted as off alone, and an exchange of an open connection as mute alone
+abbrev pub OffIsNotedFirst : Type 0
+OffIsNotedFirst =
+    IsAllowed plain (sixteen ▸ Cut None) (Note (kind.Connect Contact) why.Off)
+    × ¬ (IsAllowed plain (sixteen ▸ Cut None) (Note (kind.Connect Contact) why.NoChannel))
+    × ¬ (IsAllowed plain (sixteen ▸ Cut None) (Note (kind.Connect Contact) why.Locked))
+    × ¬ (IsAllowed plain (start) (Note (kind.Connect Contactless) why.Locked))
+    × IsAllowed plain (start ▸ Cut None) (Note (kind.Exchange 1) why.Mute)
+    × ¬ (IsAllowed plain (start ▸ Cut None) (Note (kind.Exchange 1) why.Stale))
+    × ¬ (IsAllowed plain (start ▸ Cut None) (Note (kind.Exchange 2) why.Mute))
+    × ¬ (IsAllowed plain (start ▸ Reset Contact) (Note (kind.Exchange 2) why.Stale))
+    × ¬ (IsAllowed plain (start ▸ Reset Contactless) (Note (kind.Exchange 1) why.Stale))
+    × ¬ (IsAllowed plain (start ▸ Cut None) (Note kind.Power why.Off))
+    × ¬ (IsAllowed plain start (Note (kind.Disconnect 1) why.Off))

@@ -3,3 +3,6 @@ pub mod RefusalExamples
 pub mod PolicyExamples
 pub mod BlockExamples
 pub mod ActExamples
+pub mod FormExamples
+pub mod ParameterExamples
+pub mod RoomExamples

@@ -7,10 +7,11 @@ use Rattle.piv_model.specs.declared.kinds.Interface.TheVariants.{Contact, Contac
 use Rattle.piv_model.specs.ApplicationNames.{full_aid}
 use Rattle.piv_model.specs.Chains.{WholeOf, RefusedBy, linked}
 use Rattle.piv_model.specs.Commands.{CardCommand, CardApdu}
-use Rattle.piv_model.specs.Entries.{Past, ◌▸◌, Opened, Rest, Note}
+use Rattle.piv_model.specs.declared.kinds.Took.TheVariants.{Nothing}
+use Rattle.piv_model.specs.Entries.{Past, ◌▸◌, Opened, Call, Part, Rest, Bad, Reset, Cut, Up, Note}
 use Rattle.piv_model.specs.PlainCard.{plain_pin}
 use Rattle.piv_rules.specs.Acts.{Connect}
-use Rattle.piv_rules.specs.Examples.{plain, start, after, select, get_chuid, verify, query, wrong_pin, put_chuid, blocked, administered, selected_first, get_response_apdu}
+use Rattle.piv_rules.specs.Examples.{plain, start, after, select, get_chuid, verify, query, log_out, ask_challenge, wrong_pin, put_chuid, blocked, administered, selected_first, get_response_apdu}
 use Rattle.piv_rules.specs.Frames.{RestFrame, frame_of}
 use Rattle.piv_rules.specs.Legal.{IsAllowed}
 use Rattle.piv_rules.specs.Plans.{cost}
@@ -70,6 +71,40 @@ LastRests =
     IsAllowed plain (chuid_read ▸ Rest 1 ▸ Rest 1 ▸ Rest 1 ▸ Rest 1) (Rest 1)
     × ¬ (IsAllowed plain (chuid_read ▸ Rest 1 ▸ Rest 1 ▸ Rest 1 ▸ Rest 1 ▸ Rest 1) (Rest 1))
     × ¬ (IsAllowed plain start (Rest 1))
+
+-- a piece comes only after a granted command or another piece of its own connection, with nothing else exchanged since and no break
+abbrev pub RestsFollowReplies : Type 0
+RestsFollowReplies =
+    IsAllowed plain (chuid_read ▸ Reset Contactless ▸ Opened 2 Contact true) (Rest 1)
+    × ¬ (IsAllowed plain (chuid_read ▸ Opened 2 Contact true) (Rest 2))
+    × ¬ (IsAllowed plain (chuid_read ▸ Part 1) (Rest 1))
+    × ¬ (IsAllowed plain (chuid_read ▸ Bad 1 0x6700) (Rest 1))
+    × ¬ (IsAllowed plain (chuid_read ▸ Call 1 query 0x63C3 None) (Rest 1))
+    × ¬ (IsAllowed plain (chuid_read ▸ Reset Contact) (Rest 1))
+    × ¬ (IsAllowed plain (chuid_read ▸ Cut None ▸ Up Nothing) (Rest 1))
+
+-- what is refused before it is a command has one of seven words
+abbrev pub WordsOfFraming : Type 0
+WordsOfFraming =
+    IsAllowed plain start (Bad 1 0x6700) × IsAllowed plain start (Bad 1 0x6881) × IsAllowed plain start (Bad 1 0x6882)
+    × IsAllowed plain start (Bad 1 0x6883) × IsAllowed plain start (Bad 1 0x6985) × IsAllowed plain start (Bad 1 0x6A86)
+    × IsAllowed plain start (Bad 1 0x6E00)
+    × ¬ (IsAllowed plain start (Bad 1 0x6982)) × ¬ (IsAllowed plain start (Bad 1 0x6983)) × ¬ (IsAllowed plain start (Bad 1 0x63C2))
+    × ¬ (IsAllowed plain start (Bad 1 0x6A80)) × ¬ (IsAllowed plain start (Bad 1 0x6A82)) × ¬ (IsAllowed plain start (Bad 1 0x6A84))
+    × ¬ (IsAllowed plain start (Bad 1 0x6A88)) × ¬ (IsAllowed plain start (Bad 1 0x6D00)) × ¬ (IsAllowed plain start (Bad 1 0x9000))
+
+-- only a comparison or a put loses power, and only where it is granted or misses
+abbrev pub LossesAreInWriters : Type 0
+LossesAreInWriters =
+    IsAllowed plain selected_first (Cut (Some (1, verify plain_pin)))
+    × IsAllowed plain selected_first (Cut (Some (1, verify wrong_pin)))
+    × ¬ (IsAllowed plain blocked (Cut (Some (1, verify plain_pin))))
+    × ¬ (IsAllowed plain selected_first (Cut (Some (1, query))))
+    × ¬ (IsAllowed plain selected_first (Cut (Some (1, log_out))))
+    × ¬ (IsAllowed plain selected_first (Cut (Some (1, get_chuid))))
+    × ¬ (IsAllowed plain selected_first (Cut (Some (1, ask_challenge))))
+    × ¬ (IsAllowed plain selected_first (Cut (Some (1, put_chuid))))
+    × ¬ (IsAllowed plain selected_first (Cut (Some (2, verify plain_pin))))
 
 -- the writes of a command, where a value of n bytes is put by n + 100: 4 of a match, 2 of a mismatch, those of its bytes for a
 -- put, and none of what is refused or only asks

@@ -1,9 +1,12 @@
 // The worked examples. Each is the contract of a function that does nothing.
-ghost use Rattle.history_examples.specs.ActExamples.{ExchangeRefusals, ConnectRefusals, EpochsAreTold, LossesAreMute, NotesHaveCauses};
+ghost use Rattle.history_examples.specs.ActExamples.{ExchangeRefusals, ConnectRefusals, EpochsAreTold, LossesAreMute, NotesHaveCauses, OffIsNotedFirst};
 ghost use Rattle.history_examples.specs.BlockExamples.{FifthBlock, ChallengesGoOn};
-ghost use Rattle.history_examples.specs.LimitExamples.{PieceWords, LongestChain, ChainTooLong, SeventeenthConnection, LastRests, CommandCosts};
+ghost use Rattle.history_examples.specs.FormExamples.{PinForms, PivName, TagLists, ValuesUnderTags, DiscoveryForms, NewValues, TemplateForms};
+ghost use Rattle.history_examples.specs.LimitExamples.{PieceWords, LongestChain, ChainTooLong, SeventeenthConnection, LastRests, RestsFollowReplies, WordsOfFraming, LossesAreInWriters, CommandCosts};
+ghost use Rattle.history_examples.specs.ParameterExamples.{ParametersComeFirst, ReferencesAreKnown, NewPukUnblocks, NoOtherCommand, BytesOfCommands, ClassesOfCommands};
 ghost use Rattle.history_examples.specs.PolicyExamples.{PolicyOfThePin, PolicyOfBoth};
 ghost use Rattle.history_examples.specs.RefusalExamples.{VerifyRefusals, GetResponseRefusals, DiscoveryUnderATagList, FieldsStandOnce, MutualWithAnEmptyResponse, FetchesInAChain, DiscoveryIsGiven, KeysHaveTheirForms};
+ghost use Rattle.history_examples.specs.RoomExamples.{RoomIsExact, LongestValue, LimitsOfCounters, SizesOfKeys, UnsoundMemories, RulesOfObjects};
 
 /// What the plain card makes of the last number that fits, and of the next one.
 #[tactic(auto, using(crate::proofs::LimitRows::limit_rows))]
@@ -13,6 +16,9 @@ pub fn limits_are_exact()
     ensures too_long { ChainTooLong }
     ensures sixteen { SeventeenthConnection }
     ensures rests { LastRests }
+    ensures after { RestsFollowReplies }
+    ensures framing { WordsOfFraming }
+    ensures losses { LossesAreInWriters }
     ensures costs { CommandCosts }
 {}
 
@@ -37,6 +43,7 @@ pub fn acts_are_answered_in_order()
     ensures epochs { EpochsAreTold }
     ensures mute { LossesAreMute }
     ensures notes { NotesHaveCauses }
+    ensures off { OffIsNotedFirst }
 {}
 
 /// The Global PIN opens what asks for a PIN by the policy of the Discovery Object alone.
@@ -51,4 +58,38 @@ pub fn global_pins_count_by_the_policy()
 pub fn blocks_are_those_of_chacha()
     ensures fifth { FifthBlock }
     ensures go_on { ChallengesGoOn }
+{}
+
+/// The nearest value that has a form, and the nearest that hasn't.
+#[tactic(auto, using(crate::proofs::FormRows::form_rows))]
+pub fn forms_are_exact()
+    ensures pin { PinForms }
+    ensures name { PivName }
+    ensures tag_lists { TagLists }
+    ensures values { ValuesUnderTags }
+    ensures discovery { DiscoveryForms }
+    ensures new_values { NewValues }
+    ensures templates { TemplateForms }
+{}
+
+/// Which headers a command has, and which bytes are a command.
+#[tactic(auto, using(crate::proofs::ParameterRows::parameter_rows))]
+pub fn headers_are_known()
+    ensures parameters { ParametersComeFirst }
+    ensures references { ReferencesAreKnown }
+    ensures new_puk { NewPukUnblocks }
+    ensures others { NoOtherCommand }
+    ensures bytes { BytesOfCommands }
+    ensures classes { ClassesOfCommands }
+{}
+
+/// The room of a card, the memories that a card can have, and the rules of its objects.
+#[tactic(auto, using(crate::proofs::RoomRows::room_rows))]
+pub fn memories_have_their_limits()
+    ensures room { RoomIsExact }
+    ensures longest { LongestValue }
+    ensures counters { LimitsOfCounters }
+    ensures keys { SizesOfKeys }
+    ensures unsound { UnsoundMemories }
+    ensures rules { RulesOfObjects }
 {}

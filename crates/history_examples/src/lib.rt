@@ -4,6 +4,7 @@
 mod examples;
 
 pub use examples::{
-    acts_are_answered_in_order, blocks_are_those_of_chacha, global_pins_count_by_the_policy,
-    limits_are_exact, two_refusals_meet,
+    acts_are_answered_in_order, blocks_are_those_of_chacha, forms_are_exact,
+    global_pins_count_by_the_policy, headers_are_known, limits_are_exact,
+    memories_have_their_limits, two_refusals_meet,
 };
