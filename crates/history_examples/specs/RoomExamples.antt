@@ -46,8 +46,8 @@ SizesOfKeys =
     (has_size 0x08 16 ≡ true) × (has_size 0x0A 24 ≡ true) × (has_size 0x0C 32 ≡ true)
     × (has_size 0x08 24 ≡ false) × (has_size 0x0A 16 ≡ false) × (has_size 0x0C 24 ≡ false) × (has_size 0x03 16 ≡ false)
 
--- the plain card's memory is one that a card can have; one with an empty budget, or with more than 2,048 blocks, or with a PIN
--- of five digits, or with an object too few, isn't
+-- no card has a memory with an empty budget, with fewer blocks than are in use, with more than 2,048 blocks, with a PIN of five
+-- digits, or with an object too few or too many
 abbrev pub five_digit_pin : Memory
 five_digit_pin = record plain_memory { pin = record plain_memory.pin { secret = 0x31 ∷ 0x32 ∷ 0x33 ∷ 0x34 ∷ 0x35 ∷ 0xFF ∷ 0xFF ∷ 0xFF ∷ [] } }
 
