@@ -6,7 +6,7 @@ use line_words::LineFault;
 use std::process::Abort;
 use std::test::Fail;
 
-// Each line in its shortest form and in a long one.
+// Each line in its shortest form, and with the longest names, identifiers and numbers; bytes have no length limit.
 #[rattlefmt::skip]
 const READ: [&str; 33] = [
     "connect h r shared",
@@ -16,23 +16,26 @@ const READ: [&str; 33] = [
     "select h -",
     "select abcdefghijklmnopqrstuvwxyz-_0123 a000000308000010000100",
     "login h -",
-    "login h 670D8108313233343536FFFF830180",
+    "login abcdefghijklmnopqrstuvwxyz-_0123 670D8108313233343536FFFF830180",
     "logout h",
     "logout abcdefghijklmnopqrstuvwxyz-_0123",
     "get h 1",
-    "get h 1.1.1.1.1.1.1.1.1.1.1.1.1.1.1.1.1.1.1.1.1.1.1.1.1.1.1.1.1.1.1.1.",
+    "get abcdefghijklmnopqrstuvwxyz-_0123 1.1.1.1.1.1.1.1.1.1.1.1.1.1.1.1.1.1.1.1.1.1.1.1.1.1.1.1.1.1.1.1.",
     "put h 1 hex -",
-    "put h 2.16.840.1.101.3.7.2.48.1 hex 01024344FE00",
+    "put abcdefghijklmnopqrstuvwxyz-_0123 \
+     1.1.1.1.1.1.1.1.1.1.1.1.1.1.1.1.1.1.1.1.1.1.1.1.1.1.1.1.1.1.1.1. hex 01024344FE00",
     "put h 1 fill 0 00",
-    "put h 2.16.840.1.101.3.7.2.48.1 fill 18446744073709551615 fF",
+    "put abcdefghijklmnopqrstuvwxyz-_0123 \
+     1.1.1.1.1.1.1.1.1.1.1.1.1.1.1.1.1.1.1.1.1.1.1.1.1.1.1.1.1.1.1.1. fill 18446744073709551615 fF",
     "crypt h 00 00 -",
-    "crypt h 08 9e 7C148200811000112233445566778899AABBCCDDEEFF",
+    "crypt abcdefghijklmnopqrstuvwxyz-_0123 08 9e 7C148200811000112233445566778899AABBCCDDEEFF",
     "admin h 08 101112131415161718191A1B1C1D1E1F",
     "admin h 0A 101112131415161718191A1B1C1D1E1F2021222324252627",
-    "admin h 0c 101112131415161718191a1b1c1d1e1f202122232425262728292a2b2c2d2e2f",
+    "admin abcdefghijklmnopqrstuvwxyz-_0123 0c \
+     101112131415161718191a1b1c1d1e1f202122232425262728292a2b2c2d2e2f",
     "apdu h -",
     "apdu h 00",
-    "apdu h 00CB3FFF055C035FC10200",
+    "apdu abcdefghijklmnopqrstuvwxyz-_0123 00CB3FFF055C035FC10200",
     "version",
     "generate",
     "secure",
@@ -46,7 +49,7 @@ const READ: [&str; 33] = [
 
 // One thing is wrong with each.
 #[rattlefmt::skip]
-const MALFORMED: [&str; 56] = [
+const MALFORMED: [&str; 66] = [
     "", " ", "up h", "Version", "version ", " version", "version h", "generate h", "secure h",
     "connect  h r shared", "connect h r shared ", " connect h r shared", "connect h r Shared",
     "connect h r", "connect h r shared x", "connect\th r shared", "connect h r exclusive\n",
@@ -54,18 +57,19 @@ const MALFORMED: [&str; 56] = [
     "disconnect", "disconnect ", "disconnect h h", "disconnect h.h", "disconnect \u{E9}",
     "disconnect abcdefghijklmnopqrstuvwxyz-_01234",
     "select h", "select h ", "select h A", "select h AG", "select h A0 A0", "select h --",
-    "login h 0", "login h 0x00", "logout", "logout h h",
+    "login h 0", "login h 0x00", "login h ", "logout", "logout h h",
     "get h", "get h ", "get h 1a", "get h 1-1",
     "get h 1.1.1.1.1.1.1.1.1.1.1.1.1.1.1.1.1.1.1.1.1.1.1.1.1.1.1.1.1.1.1.1.1",
-    "put h 1 hex", "put h 1 Hex 00", "put h 1 hex 0", "put h 1 hex 00 00",
+    "put h 1 hex", "put h 1 Hex 00", "put h 1 hex 0", "put h 1 hex ", "put h 1 hex 00 00",
     "put h 1 fill 01 5A", "put h 1 fill 18446744073709551616 5A", "put h 1 fill +1 5A",
     "put h 1 fill - 5A", "put h 1 fill 1 5", "put h 1 fill 1 5A5A", "put h 1 fill  5A",
     "crypt h 8 9B 00", "crypt h 08 9B", "crypt h 08 - 00",
-    "admin h 08 101112131415161718191A1B1C1D1E1F20", "admin h 08 -", "apdu h",
+    "admin h 08 101112131415161718191A1B1C1D1E1F20", "admin h 08 -",
+    "apdu h", "apdu h 000", "reset", "reset r r", "reset r ", "cut", "cut c c", "power", "power  c",
 ];
 
 #[test]
-fn each_line_is_read_in_its_shortest_and_in_a_long_form(rt: HostRuntime) {
+fn each_line_is_read_in_its_shortest_and_in_its_longest_form(rt: HostRuntime) {
     for text in READ {
         assert!(rt; read_line(rt.alloc(), text).is_ok());
     }
