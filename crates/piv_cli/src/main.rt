@@ -28,7 +28,7 @@ use crate::program::top;
 use crate::status::Status;
 use crate::words::Words;
 use piv_ports::{StdSink, StdSource};
-use std::io::{Eprint, ErrorKind};
+use std::io::{BufWriter, Eprint, ErrorKind};
 use std::process::ExitCode;
 use std::{env, io};
 
@@ -47,8 +47,11 @@ fn main(rt: HostRuntime) -> ExitCode {
     let Ok(mut devices) = blank_devices(alloc) else {
         return ended(&rt, Status::NoMemory);
     };
+    let Ok(writer) = BufWriter::new(alloc, io::writer(&rt)) else {
+        return ended(&rt, Status::NoMemory);
+    };
     let mut source = StdSource::new(rt.reader());
-    let mut sink = StdSink::new(io::writer(&rt));
+    let mut sink = StdSink::new(writer);
     let status = top(&rt, alloc, &words, &mut source, &mut sink, &mut devices);
     ended(&rt, status)
 }
