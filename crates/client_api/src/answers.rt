@@ -132,6 +132,17 @@ pub fn logged_out(idle: bool, answer: Answer) -> ApiAnswer
     }
 }
 
+// The bytes that a call joined. Those that one reply could hold are kept as such, so that the memory is free again.
+fn joined(all: Vec<u8>) -> Body
+    ensures { result ≡ all.items }
+{
+    if all.len() <= 256 {
+        Body::short(ReplyBytes::of(&all))
+    } else {
+        Body::long(all)
+    }
+}
+
 /// pivGetData; `all` are the data of all replies.
 pub fn got(handle: &CardHandle, object: ObjectId, all: Vec<u8>, answer: Answer) -> ApiAnswer
     ensures { result ≡ by_last (Get handle.now object) all.items false (answer_of answer) }
@@ -148,7 +159,7 @@ pub fn got(handle: &CardHandle, object: ObjectId, all: Vec<u8>, answer: Answer) 
             } else if sw == NOT_FOUND {
                 ApiAnswer::DataObjectNotFound
             } else {
-                plain(Body::long(all), sw)
+                plain(joined(all), sw)
             }
         }
     }
