@@ -24,6 +24,11 @@ def mixed(count):
 open(dir + "/whole", "w").write(mixed(62))
 open(dir + "/half", "w").write(mixed(31))
 
+# The same without cards, which is refused as soon as the document is read; and with a word too many in the last line, which is refused
+# when all else is read.
+open(dir + "/document", "w").write(mixed(62)[len("".join(card(k) for k in range(8))):])
+open(dir + "/refused", "w").write(" more\",".join(mixed(62).rsplit("\",", 1)))
+
 # 1,024 puts of 16,384 bytes, each in 65 parts.
 admin = "admin h 08 101112131415161718191A1B1C1D1E1F"
 def puts(total):
