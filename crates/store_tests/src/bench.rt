@@ -131,6 +131,11 @@ impl<S: Store> Bench<S> {
         (self.store.algorithm(key), self.store.encipher(key, block))
     }
 
+    // How often power was lost within a call.
+    pub(crate) fn losses(&self) -> u64 {
+        self.store.lost()
+    }
+
     // The tries of PIN and PUK.
     pub(crate) fn tries(&self) -> [u8; 2] {
         [self.store.tries(RefId::Pin), self.store.tries(RefId::Puk)]

@@ -73,7 +73,18 @@ pub(crate) fn stored<O: Objects>(
 
 // The same card in memory, without losses.
 pub(crate) fn in_memory(alloc: Global, kind: Kind) -> Result<Bench<MemoryStore>, Fail> {
-    let store = MemoryStore::new(alloc, &start_of(alloc, kind)?, Vec::new(alloc))?;
+    in_memory_under(alloc, kind, Vec::new(alloc))
+}
+
+// The same under a plan of losses.
+pub(crate) fn in_memory_under(
+    alloc: Global,
+    kind: Kind,
+    losses: Vec<memory_store::Loss>,
+) -> Result<Bench<MemoryStore>, Fail>
+    requires rises { RisesFrom 0 (write_numbers losses.items) }
+{
+    let store = MemoryStore::new(alloc, &start_of(alloc, kind)?, losses)?;
     Ok(Bench::new(store.untold()))
 }
 

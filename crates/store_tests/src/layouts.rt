@@ -84,6 +84,37 @@ fn layout_2_has_its_references_behind_the_keys(rt: HostRuntime) -> Result<(), Fa
     Ok(())
 }
 
+// Behind a limit of 0 there is no Global PIN.
+#[test]
+fn the_plain_card_of_layout_2(rt: HostRuntime) -> Result<(), Fail> {
+    let alloc = rt.alloc();
+    let head = "
+        4 02
+        6 0800
+        115 00
+        116 0303313233343536FFFF0303313233343536373800
+    ";
+    let twins = device_after::<Twins>(&rt, alloc, Kind::Second, None)?;
+    assert!(rt; hold_rows(alloc, &twins, head)?);
+    let objects = "
+        0 50495654
+        33029 0000043E00FE00
+        295213 00000601024142FE00
+    ";
+    assert!(rt; hold_rows(alloc, &twins, objects)?);
+    let blocks = device_after::<Blocks>(&rt, alloc, Kind::Second, None)?;
+    assert!(rt; hold_rows(alloc, &blocks, head)?);
+    let objects = "
+        0 50495642
+        256 00
+        261 00040000
+        293 00060001
+        297 00120002
+    ";
+    assert!(rt; hold_rows(alloc, &blocks, objects)?);
+    Ok(())
+}
+
 // The directory's entries of CHUID, printed information and Discovery Object, and their blocks.
 #[test]
 fn the_plain_card_in_blocks(rt: HostRuntime) -> Result<(), Fail> {

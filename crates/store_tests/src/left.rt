@@ -28,7 +28,7 @@ pub(crate) const LEFT: [Left; 9] = [
 ];
 
 impl Left {
-    fn how(self) -> How {
+    pub(crate) fn how(self) -> How {
         match self {
             Left::Before => How::Before,
             Left::Torn(byte) => How::Torn(Pattern::new(&[byte])),
@@ -66,12 +66,23 @@ pub(crate) fn one_loss(alloc: Global, write: u8, left: Left) -> Result<Vec<Loss>
 }
 
 // A loss at this write behind four, and one as many writes later.
-pub(crate) fn two_losses(alloc: Global, write: u8, left: Left) -> Result<Vec<Loss>, Fail>
+pub(crate) fn two_losses<H: Drop>(
+    alloc: Global,
+    write: u8,
+    first: H,
+    second: H,
+) -> Result<Vec<power_loss::Loss<H>>, Fail>
     requires { 0 < write }
     ensures { IfOk result (λ losses. RisesFrom 0 (write_numbers losses.items)) }
 {
     let mut losses = Vec::new(alloc);
-    losses.push(loss(4 + u64::from(write), left))?;
-    losses.push(loss(4 + 2 * u64::from(write), left))?;
+    losses.push(power_loss::Loss {
+        write: 4 + u64::from(write),
+        how: first,
+    })?;
+    losses.push(power_loss::Loss {
+        write: 4 + 2 * u64::from(write),
+        how: second,
+    })?;
     Ok(losses)
 }

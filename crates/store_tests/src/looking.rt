@@ -54,6 +54,7 @@ fn expect_head<O: Objects>(alloc: Global, kind: Kind) -> Result<(), Fail> {
         card 50 FF
         bad 82 00
         card 82 0A
+        card 83 FF
         bad 82 0D
     ";
     expect_found::<O>(alloc, kind, rows)

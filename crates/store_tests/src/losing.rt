@@ -2,10 +2,11 @@
 ghost use Rattle.std.specs.Prelude.{◌<◌};
 
 use crate::bench::{Bench, Call, LOST, have_same_secrets, read_alike};
-use crate::cards::{Kind, in_memory, object, stored};
+use crate::cards::{Kind, in_memory_under, object, stored};
 use crate::left::{LEFT, Left, two_losses};
 use block_store::Blocks;
 use card_image::Objects;
+use memory_store::{Leaves, MemoryStore};
 use piv_model::{RefId, Store};
 use std::alloc::Global;
 use std::process::Abort;
@@ -38,9 +39,28 @@ impl Case {
         }
         self.left.byte(u8::from(is_second), u8::from(!is_second)) % 2 == 1
     }
+
+    // Which memory stands behind the loss.
+    fn leaves(self, is_second: bool) -> Leaves {
+        if self.live(is_second) == is_second {
+            Leaves::Old
+        } else {
+            Leaves::New
+        }
+    }
 }
 
-// The memory of the store is the old or the new one, by the slot that is live.
+// The card in memory, which loses the same writes.
+fn lost_in_memory(alloc: Global, case: Case) -> Result<Bench<MemoryStore>, Fail>
+    requires { 0 < case.write }
+{
+    let first = case.leaves(false);
+    let second = case.leaves(case.live(false));
+    let losses = two_losses(alloc, case.write, first, second)?;
+    in_memory_under(alloc, case.kind, losses)
+}
+
+// The memory of the store is the old or the new one, by the slot that is live, and that of the store in memory too.
 fn expect_loss<O: Objects>(
     rt: &impl Abort,
     alloc: Global,
@@ -49,18 +69,16 @@ fn expect_loss<O: Objects>(
 ) -> Result<(), Fail>
     requires { 0 < case.write }
 {
-    let mut lost = stored::<O>(alloc, case.kind, two_losses(alloc, case.write, case.left)?)?;
-    let mut kept = in_memory(alloc, case.kind)?;
+    let losses = two_losses(alloc, case.write, case.left.how(), case.left.how())?;
+    let mut lost = stored::<O>(alloc, case.kind, losses)?;
+    let mut kept = lost_in_memory(alloc, case)?;
     spent(rt, &mut lost);
     spent(rt, &mut kept);
-    let mut is_second = false;
-    for _again in 0..2 {
+    for losses in 1..=2 {
         assert_eq!(rt; lost.make(call), LOST, "{call:?} {case:?}");
-        let is_live = case.live(is_second);
-        if is_live != is_second {
-            assert_eq!(rt; kept.make(call), Ok(()), "{call:?} {case:?}");
-        }
-        is_second = is_live;
+        assert_eq!(rt; kept.make(call), LOST, "{call:?} {case:?}");
+        assert_eq!(rt; lost.losses(), losses, "{call:?} {case:?}");
+        assert_eq!(rt; kept.losses(), losses, "{call:?} {case:?}");
         assert!(rt; read_alike(alloc, &lost, &kept)?, "{call:?} {case:?}");
     }
     assert!(rt;
@@ -92,17 +110,23 @@ fn expect_losses<O: Objects>(
     Ok(())
 }
 
-// Each call, with the writes of a put of three blocks.
-fn expect_all_losses<O: Objects>(rt: &impl Abort, alloc: Global, put: u8) -> Result<(), Fail> {
+// Each call, and puts of these values, each in so many writes.
+fn expect_all_losses<O: Objects>(
+    rt: &impl Abort,
+    alloc: Global,
+    puts: &[(&[u8], u8)],
+) -> Result<(), Fail> {
     let chuid = object(0x02)?;
     for kind in [Kind::First, Kind::Second, Kind::Global] {
-        expect_losses::<O>(rt, alloc, kind, &Call::Spend(RefId::Puk), 2)?;
-        expect_losses::<O>(rt, alloc, kind, &Call::Restore(RefId::Pin), 2)?;
-        expect_losses::<O>(rt, alloc, kind, &Call::Renew(RefId::Pin), 2)?;
-        expect_losses::<O>(rt, alloc, kind, &Call::Renew(RefId::Puk), 2)?;
+        for r in [RefId::Pin, RefId::Puk] {
+            expect_losses::<O>(rt, alloc, kind, &Call::Spend(r), 2)?;
+            expect_losses::<O>(rt, alloc, kind, &Call::Restore(r), 2)?;
+            expect_losses::<O>(rt, alloc, kind, &Call::Renew(r), 2)?;
+        }
         expect_losses::<O>(rt, alloc, kind, &Call::Unblock, 2)?;
-        expect_losses::<O>(rt, alloc, kind, &Call::Put(chuid, &LONG), put)?;
-        expect_losses::<O>(rt, alloc, kind, &Call::Put(chuid, &[]), 2)?;
+        for (value, writes) in puts {
+            expect_losses::<O>(rt, alloc, kind, &Call::Put(chuid, value), *writes)?;
+        }
     }
     expect_losses::<O>(rt, alloc, Kind::Global, &Call::Spend(RefId::GlobalPin), 2)?;
     expect_losses::<O>(rt, alloc, Kind::Global, &Call::Renew(RefId::GlobalPin), 2)
@@ -112,10 +136,19 @@ fn expect_all_losses<O: Objects>(rt: &impl Abort, alloc: Global, put: u8) -> Res
 fn a_lost_call_leaves_the_old_or_the_new_memory_in_twin_records(
     rt: HostRuntime,
 ) -> Result<(), Fail> {
-    expect_all_losses::<Twins>(&rt, rt.alloc(), 2)
+    let puts = [(LONG.as_slice(), 2), (&LONG[..64], 2), (&[], 2)];
+    expect_all_losses::<Twins>(&rt, rt.alloc(), &puts)
 }
 
 #[test]
 fn a_lost_call_leaves_the_old_or_the_new_memory_in_blocks(rt: HostRuntime) -> Result<(), Fail> {
-    expect_all_losses::<Blocks>(&rt, rt.alloc(), 5)
+    let puts = [
+        (LONG.as_slice(), 5),
+        (&LONG[..65], 4),
+        (&LONG[..64], 3),
+        (&LONG[..63], 3),
+        (&LONG[..1], 3),
+        (&[], 2),
+    ];
+    expect_all_losses::<Blocks>(&rt, rt.alloc(), &puts)
 }
