@@ -3,6 +3,8 @@
 #![tactic(auto)]
 
 mod answers;
+#[cfg(test)]
+mod answers_tests;
 mod call;
 mod commands;
 mod handle;

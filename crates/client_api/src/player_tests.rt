@@ -4,6 +4,7 @@ ghost use Rattle.script_line.specs.Playable.{IsPlayable, ArePlayable};
 ghost use Rattle.client_api.specs.Players.{AreNamesOn, IsReady};
 
 use crate::listed::{Listed, Told};
+use crate::tests::moves;
 use crate::{Player, Readers};
 use entry_text::print_answer;
 use piv_model::Interface::Contact;
@@ -133,5 +134,6 @@ fn lines_take_the_newest_handle_of_their_name(rt: HostRuntime) -> Result<(), Fai
         print_answer(k.saturating_add(1), answer, &mut sink).or(Err("not printed"))?;
     }
     assert!(rt; sink.taken() == ANSWERS.as_bytes());
+    let _ = moves(Player::new(alloc, &script)?);
     Ok(())
 }

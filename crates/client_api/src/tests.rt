@@ -20,7 +20,7 @@ const DISCOVERY: &str = "2.16.840.1.101.3.7.2.96.80";
 
 const DONE: Told = Told::Reply(0x9000, 0);
 
-fn contact() -> CardHandle
+pub(crate) fn contact() -> CardHandle
     ensures { result.card ≡ 0 }
 {
     CardHandle::new(0, 1, 0, Contact)
@@ -38,7 +38,13 @@ fn holds(test: bool, why: &'static str) -> Result<(), Fail> {
 }
 
 // Runs a call to its end: what it sent, and its answer as it is printed. Each answer of the list is used.
-fn plays(alloc: Global, call: ApiCall, answers: &[Told], sent: &str, want: &str) -> Result<(), Fail>
+pub(crate) fn plays(
+    alloc: Global,
+    call: ApiCall,
+    answers: &[Told],
+    sent: &str,
+    want: &str,
+) -> Result<(), Fail>
     requires { IsOn 1 call }
 {
     let mut port = Listed {
@@ -55,7 +61,7 @@ fn plays(alloc: Global, call: ApiCall, answers: &[Told], sent: &str, want: &str)
     holds(sink.taken() == want.as_bytes(), "another answer")
 }
 
-fn get(alloc: Global, handle: CardHandle, oid: &str) -> Result<ApiCall, Fail>
+pub(crate) fn get(alloc: Global, handle: CardHandle, oid: &str) -> Result<ApiCall, Fail>
     requires { handle.card ≡ 0 }
     ensures { IfOk result (λ call. IsOn 1 call) }
 {
@@ -65,7 +71,7 @@ fn get(alloc: Global, handle: CardHandle, oid: &str) -> Result<ApiCall, Fail>
     }
 }
 
-fn put(alloc: Global, oid: &str, value: &[u8]) -> Result<ApiCall, Fail>
+pub(crate) fn put(alloc: Global, oid: &str, value: &[u8]) -> Result<ApiCall, Fail>
     requires { length value.now ≤ 16512 }
     ensures { IfOk result (λ call. IsOn 1 call) }
 {
@@ -403,7 +409,7 @@ fn the_administration_key_has_three_lengths(rt: HostRuntime) -> Result<(), Fail>
     admin_answers(rt.alloc(), 0x0C, 32)
 }
 
-fn moves<T: Send>(x: T) -> T {
+pub(crate) fn moves<T: Send>(x: T) -> T {
     x
 }
 
