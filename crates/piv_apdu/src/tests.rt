@@ -5,9 +5,12 @@ use std::test::Fail;
 
 #[test]
 fn reads_each_length_and_le_and_refuses_the_rest(rt: HostRuntime) -> Result<(), Fail> {
-    let cases: [(&[u8], Result<(&[u8], usize), u16>); 11] = [
+    let cases: [(&[u8], Result<(&[u8], usize), u16>); 14] = [
         (&[0x00, 0xCB, 0x3F], Err(0x6700)),
         (&[0x0C, 0xCB, 0x3F], Err(0x6700)),
+        (&[0x0C, 0xCB, 0x3F, 0xFF, 0x00], Err(0x6882)),
+        (&[0x01, 0xA4, 0x04, 0x00, 0x00], Err(0x6881)),
+        (&[0x80, 0xCA, 0x9F, 0x7F, 0x00], Err(0x6E00)),
         (&[0x00, 0xA4, 0x04, 0x00], Ok((&[], 256))),
         (&[0x00, 0xC0, 0x00, 0x00, 0x00], Ok((&[], 256))),
         (&[0x00, 0xC0, 0x00, 0x00, 0x01], Ok((&[], 1))),
@@ -115,8 +118,14 @@ fn writes_commands_of_each_length_with_and_without_le(rt: HostRuntime) -> Result
         let written = out.as_slice();
         assert!(rt; written.starts_with(begins), "{size} bytes");
         let lc = if size == 0 { 0 } else { 1 };
-        let le = if le.is_some() { 1 } else { 0 };
+        let (le, most) = match le {
+            None => (0, 256),
+            Some(0x00) => (1, 256),
+            Some(most) => (1, most as usize),
+        };
         assert_eq!(rt; written.len(), 4 + lc + size + le);
+        let read = read_apdu(written).map(|apdu| (apdu.class, apdu.body.len(), apdu.most));
+        assert!(rt; read == Ok((class, size, most)), "{size} bytes");
     }
     Ok(())
 }
