@@ -7,15 +7,20 @@ use std::test::Fail;
 
 const BYTES: [u8; 255] = [0x5A; 255];
 
-fn get_data<'a>(class: u8, p2: u8, body: &'a [u8]) -> Apdu<'a> {
+fn apdu<'a>(class: u8, header: [u8; 3], body: &'a [u8]) -> Apdu<'a> {
+    let [ins, p1, p2] = header;
     Apdu {
         class,
-        ins: 0xCB,
-        p1: 0x3F,
+        ins,
+        p1,
         p2,
         body,
         most: 256,
     }
+}
+
+fn get_data<'a>(class: u8, p2: u8, body: &'a [u8]) -> Apdu<'a> {
+    apdu(class, [0xCB, 0x3F, p2], body)
 }
 
 // What feeding an APDU came to: 90 00 for a part, 00 00 for a whole command with its number of bytes.
@@ -45,16 +50,22 @@ fn a_command_in_two_parts_is_joined_under_one_header(rt: HostRuntime) -> Result<
 
 #[test]
 fn another_header_ends_the_chain(rt: HostRuntime) -> Result<(), Fail> {
-    let rows: [(u8, u8, &[u8], (u16, usize)); 4] = [
-        (0x10, 0xFF, &[0x5C, 0x03], (0x9000, 0)),
-        (0x00, 0xFE, &[0x5F, 0xC1, 0x02], (0x6883, 0)),
-        (0x00, 0xFF, &[0x5C, 0x03, 0x5F, 0xC1, 0x02], (0x0000, 5)),
-        (0x00, 0xFF, &[], (0x0000, 0)),
+    let header = [0xCB, 0x3F, 0xFF];
+    let get_response = [0xC0, 0x00, 0x00];
+    let rows: [(u8, [u8; 3], &[u8], (u16, usize)); 8] = [
+        (0x10, header, &[0x5C, 0x03], (0x9000, 0)),
+        (0x00, [0xCB, 0x3F, 0xFE], &[0x5F, 0xC1, 0x02], (0x6883, 0)),
+        (0x00, header, &[0x5C, 0x03, 0x5F, 0xC1, 0x02], (0x0000, 5)),
+        (0x10, header, &[0x5C, 0x03], (0x9000, 0)),
+        (0x00, get_response, &[], (0x6883, 0)),
+        (0x10, header, &[0x5C, 0x03], (0x9000, 0)),
+        (0x10, [0xCB, 0x3E, 0xFF], &[0x5F], (0x6883, 0)),
+        (0x00, header, &[], (0x0000, 0)),
     ];
     let mut joiner = Joiner::new(rt.alloc())?;
-    for (class, p2, body, expected) in rows {
+    for (class, header, body, expected) in rows {
         assert!(rt;
-            fed(&mut joiner, &get_data(class, p2, body)) == expected,
+            fed(&mut joiner, &apdu(class, header, body)) == expected,
             "{body:?}"
         );
     }
