@@ -1,7 +1,7 @@
 // Whether an access rule holds on a connection.
 ghost use Rattle.std.specs.Prelude.{◌≡◌, List, ℕ, Some, IsTrue};
 ghost use Rattle.piv_model.specs.Memory.{Memory};
-ghost use Rattle.piv_rules.specs.Answers.{holds, global_counts, situation};
+ghost use Rattle.piv_rules.specs.Answers.{holds, global_counts, is_contact, situation};
 ghost use Rattle.card_commands.specs.Connections.{channel_of};
 
 use crate::connection::Conn;
@@ -28,6 +28,16 @@ fn global_counts<S: Store>(store: &S) -> bool
     let mut value = [0; LENGTH];
     store.fill(discovery, &mut value);
     value[POLICY] == GLOBAL_COUNTS
+}
+
+// Whether a reference may be used on a connection.
+pub(crate) fn has_contact_use(conn: &Conn, interface: Interface) -> bool
+    ensures { result ≡ is_contact interface }
+{
+    match decide(Rule::ContactUse, interface, &conn.status(), false) {
+        Verdict::Permit => true,
+        Verdict::Deny { .. } => false,
+    }
 }
 
 // Whether a rule holds on a connection.

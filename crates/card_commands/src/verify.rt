@@ -11,6 +11,7 @@ ghost use Rattle.card_commands.specs.Connections.{channel_of};
 ghost use Rattle.card_commands.specs.Executes.{IsReply, Replies};
 ghost use Rattle.card_commands.specs.Words.{is_compare_word};
 
+use crate::access::has_contact_use;
 use crate::connection::Conn;
 use crate::executed::{Executed, only};
 use crate::traits::Traits;
@@ -74,7 +75,7 @@ pub(crate) fn log_out(r: RefId, conn: &mut Conn, interface: Interface) -> Execut
         result [] (channel_of conn.old) (channel_of conn.new) }
 {
     conn.exchange.forget();
-    if interface != Interface::Contact {
+    if !has_contact_use(conn, interface) {
         return only(SECURITY_STATUS_NOT_SATISFIED);
     }
     conn.set(r, Some(false));
@@ -97,7 +98,7 @@ pub(crate) fn query<S: Store>(
         (channel_of conn.old) (channel_of conn.new) (S.state store.now).mem }
 {
     conn.exchange.forget();
-    if interface != Interface::Contact {
+    if !has_contact_use(conn, interface) {
         return only(SECURITY_STATUS_NOT_SATISFIED);
     }
     if conn.has_login(r) {
