@@ -3,8 +3,8 @@ ghost use Rattle.piv_rules.specs.Lent.{AreFew};
 
 use piv_model::{Command, Entry, Interface, ObjectId, RefId, Rule, Took, object_by_tag};
 use piv_rules::{
-    Asked, Counter, Pending, Purpose, Seen, answer_word, conditions_of, is_break, running_at, side_of,
-    word_of,
+    Asked, Counter, Pending, Purpose, Seen, answer_word, conditions_of, is_break, running_at,
+    side_of, word_of,
 };
 
 static RIGHT: [u8; 8] = [0x31, 0x32, 0x33, 0x34, 0x35, 0x36, 0xFF, 0xFF];
