@@ -3,6 +3,7 @@ ghost use Rattle.std.specs.Prelude.{◌≡◌};
 
 use crate::{Scene, make_scene, read_scene};
 use piv_model::Interface::{Contact, Contactless};
+use piv_model::application_names;
 use script_line::{Line, Script};
 use std::alloc::Global;
 use std::test::Fail;
@@ -49,20 +50,25 @@ const PLACES: &str = "
     read: %global = '363534333231FFFF';objects = [{ tag = '7E', value = '4F0BA0000003080000100001005F2F026010' }]
     read: %losses = [{ write = 2, kind = 'torn', pattern = 'ab' }, { write = 3, kind = 'before' }]
     read: @;script = [{ name = 'a', lines = ['connect h elsewhere shared', 'reset f', 'cut A', 'power A'] }];schedule = [0, 0]
+    read: @;x = <80 [><80 ]>
     Bad(NotToml): [[card
     Bad(NotToml): @;x = 1;x = 2
     Bad(NotToml): @;x = 9223372036854775808
     Bad(NotToml): @;x = <81 [><81 ]>
+    Bad(NotToml): card = [];script = 1;x
     Bad(Cards): x = 1
     Bad(Cards): card = []
     Bad(Cards): card = { name = 'A', contact = 'f' }
     Bad(Cards): card = [{ name = 'A', contact = 'f' }, 1]
+    Bad(Cards): card = [{ name = 'A' }, 1]
+    Bad(Cards): card = [];script = 1;schedule = 1
     Bad(Card(0)): card = [{ contact = 'f' }]
     Bad(Card(0)): card = [{ name = 'A' }]
     Bad(Card(0)): card = [{ name = 'a.b', contact = 'f' }]
     Bad(Card(0)): card = [{ name = 'A', contact = '<33 f>' }]
     Bad(Card(0)): card = [{ name = 'A', contact = 1 }]
     Bad(Card(0)): card = [{ name = 'A', contact = 'f', contactless = 'f' }]
+    Bad(Card(0)): card = [{ name = 'A' }, { name = 'A' }]
     Bad(Card(1)): card = [{ name = 'A', contact = 'f' }, { name = 'A', contact = 'g' }]
     Bad(Card(1)): card = [{ name = 'A', contact = 'f' }, { name = 'B', contactless = 'f' }]
     Bad(Card(0)): %random = '<31 00>'
@@ -103,7 +109,7 @@ const PLACES: &str = "
     Bad(Script(0)): @;script = [{ name = 'a', lines = 'version' }]
     Bad(Script(1)): @;script = [{ name = 'a' }, { name = 'a' }]
     Bad(Script(1)): @;script = [{ name = 'a', lines = ['nothing'] }, { name = 'b', lines = [1] }]
-    Bad(Line(0, 2)): @;script = [{ name = 'a', lines = ['version', 'version '] }]
+    Bad(Line(0, 2)): @;script = [{ name = 'a', lines = ['version', 'version ', 'x'] }, { name = 'b', lines = ['x'] }]
     Bad(Line(1, 1)): @;script = [{ name = 'a' }, { name = 'b', lines = ['cut B'] }]
     Bad(Line(0, 1)): @;script = [{ name = 'a', lines = ['power f'] }]
     Bad(Line(0, 1)): @;script = [{ name = 'a', lines = ['reset A'] }]
@@ -120,11 +126,13 @@ const PLACES: &str = "
 const LIMITS: &str = "
     read: card = [<8 { name = 'A#', contact = 'f#' },>]
     TooLarge(Cards): card = [<9 { name = 'A#', contact = 'f#', limit_pin = 16 },>]
+    TooLarge(Cards): card = [<9 { name = 'A#', contact = 'f#' },>];script = [<65 { name = 'a#' },>]
     read: @;script = [<64 { name = 'a#' },>]
     TooLarge(Scripts): @;script = [<65 { name = 'a#' },>]
     TooLarge(Scripts): @;script = [{ name = 'a', lines = [<4097 'version',>] },<64 { name = 'a#' },>]
     read: @;script = [{ name = 'a', lines = [<4096 'version',>] }]
     TooLarge(Lines): @;script = [{ name = 'a', lines = [<4096 'version',>] }, { name = 'b', lines = ['version'] }]
+    TooLarge(Lines): @;script = [{ name = 'a', lines = [<4097 'version',>] }];schedule = [<65537 0,>]
     read: @;script = [{ name = 'a' }];schedule = [<65536 0,>]
     TooLarge(Schedule): script = [{ name = 'a' }];schedule = [<65537 0,>];%limit_pin = 16
     TooLarge(LimitPin): %limit_puk = 16;limit_pin = 16
@@ -137,7 +145,8 @@ const LIMITS: &str = "
     TooLarge(Object): %budget = 1;objects = [{ tag = '5FC102', size = 16385, fill = '00' }]
     read: %budget = 3;objects = [{ tag = '5FC102', size = 128, fill = '00' }, { tag = '5FC103', value = '00' }]
     TooLarge(Room): %budget = 3;objects = [{ tag = '5FC102', size = 129, fill = '00' }, { tag = '5FC103', value = '00' }]
-    TooLarge(Room): script = [{ name = 'a', lines = ['apdu h <513 00>'] }];%budget = 1;objects = [{ tag = '5FC102', size = 65, fill = '00' }]
+    TooLarge(Room): %budget = 1;objects = [{ tag = '5FC102', value = '<65 00>' }];[[card]];name = 'B';contact = 'g';limit_pin = 16
+    TooLarge(Room): script = [{ name = 'a', lines = ['put h 1 fill 16513 00'] }];%budget = 1;objects = [{ tag = '5FC102', size = 65, fill = '00' }]
     read: @;script = [{ name = 'a', lines = ['put h 1 fill 16512 00', 'put h 1 hex <16512 00>'] }]
     TooLarge(Put): @;script = [{ name = 'a', lines = ['put h 1 fill 16513 00'] }]
     TooLarge(Put): @;script = [{ name = 'a', lines = ['put h 1 hex <16513 00>', <1016 'put h 1 fill 16512 00',>] }]
@@ -258,6 +267,9 @@ fn what_is_absent_is_as_in_the_plain_card(rt: HostRuntime) -> Result<(), Fail> {
     assert!(rt; scene.card_name(0) == "A" && scene.plan(0).is_empty());
     assert!(rt; scene.reader(0, Contact) == Some("f") && scene.reader(0, Contactless).is_none());
     assert!(rt; scene.scripts() == 0 && scene.schedule().is_empty());
+    let scene = scene_of(rt.alloc(), "%global = '363534333231FFFF'")?;
+    assert_eq!(rt; scene.cards(), 1);
+    assert!(rt; scene.start(0).global.limit == 3);
     Ok(())
 }
 
@@ -335,7 +347,9 @@ fn bytes_that_are_no_document_are_told(rt: HostRuntime) -> Result<(), Fail> {
 }
 
 // The kind of each line of the scene that the number 2026 gives, and the size of a `put`, as another program found them.
+// Before them stand the reader that each script connects to, and its selection.
 const KINDS: &str = "
+    front front front gate PIV PIV PIV PIV
     4 6:545 1 2 6:891 0 3 0 6:868 1 4 6:818 5 6:627 1 2 7 2 4 1
     5 5 3 5 2 5 0 7 4 0 2 5 3 6:506 3 0 6:92 4 5 7
     6:916 0 7 5 2 4 4 3 2 3 3 1 3 5 6:873 3 0 0 6:474 5
@@ -346,6 +360,22 @@ const KINDS: &str = "
 // The kind of a line of the generated scene.
 fn kind_of(alloc: Global, line: &Line) -> Result<String, Fail> {
     let kind = match line {
+        Line::Connect {
+            h: _,
+            reader,
+            shared: true,
+        } => match reader.as_str() {
+            "front" => "front",
+            "gate" => "gate",
+            _ => "another reader",
+        },
+        Line::Select { h: _, aid } => {
+            if aid.as_slice() == application_names::FULL.as_slice() {
+                "PIV"
+            } else {
+                "another application"
+            }
+        }
         Line::Get { h: _, oid } => match oid.as_str() {
             "2.16.840.1.101.3.7.2.48.0" => "0",
             "2.16.840.1.101.3.7.2.48.1" => "1",
@@ -390,7 +420,7 @@ fn line_at(script: &Script, k: usize) -> Result<&Line, Fail> {
 // The kinds of the lines, one of each script in turn.
 fn expect_kinds(alloc: Global, scene: &Scene, kinds: &str) -> Result<(), Fail> {
     let mut k = 0;
-    let mut n = 2;
+    let mut n = 0;
     for want in kinds.split_whitespace() {
         if k >= scene.scripts() {
             return Err("too few scripts")?;
@@ -411,7 +441,14 @@ fn a_number_gives_a_scene(rt: HostRuntime) -> Result<(), Fail> {
     let alloc = rt.alloc();
     let scene = make_scene(alloc, 100, 2026).or(Err("memory"))?;
     assert!(rt; scene.cards() == 1 && scene.scripts() == 4 && scene.schedule().is_empty());
-    assert!(rt; scene.start(0).limit_pin == 15 && scene.start(0).objects.len() == 3);
-    assert!(rt; scene.script(3).name() == "s3" && scene.script(3).len() == 27);
+    let start = scene.start(0);
+    assert!(rt; start.limit_pin == 15 && start.limit_puk == 15 && start.objects.len() == 3);
+    assert!(rt; scene.card_name(0) == "A" && scene.plan(0).is_empty());
+    assert!(rt; scene.reader(0, Contact) == Some("front"));
+    assert!(rt; scene.reader(0, Contactless) == Some("gate"));
+    for (k, name) in ["s0", "s1", "s2", "s3"].iter().enumerate() {
+        assert!(rt; k < scene.scripts() && scene.script(k).name() == *name);
+        assert!(rt; scene.script(k).len() == 27);
+    }
     expect_kinds(alloc, &scene, KINDS)
 }
