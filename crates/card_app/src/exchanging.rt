@@ -9,7 +9,7 @@ ghost use Rattle.card_app.specs.Kept.{attached_as};
 
 use crate::slot::Connection;
 use card_commands::{Broken, Executed, execute};
-use piv_apdu::read_apdu;
+use piv_apdu::read_command;
 use piv_chaining::{Joiner, Joining, Pieces};
 use piv_model::status_words::{CONDITIONS_NOT_SATISFIED, INCORRECT_P1_P2, SUCCESS, WRONG_LENGTH};
 use piv_model::{Apdu, Store};
@@ -123,7 +123,7 @@ pub(crate) fn exchange_on<S: Store>(
     ensures leaves { LeavesStore result (S.state store.old) (S.state store.new) }
     ensures held { KeepsHeld result joiner.old joiner.new }
 {
-    let apdu = match read_apdu(bytes) {
+    let apdu = match read_command(bytes) {
         Ok(apdu) => apdu,
         Err(word) => {
             joiner.drop_chain();

@@ -50,7 +50,7 @@ pub fn with_header<'a>(bytes: &'a [u8], body: &'a [u8], most: usize) -> Apdu<'a>
 /// The error is the status word that refuses it: 67 00 for a wrong length, 68 82 for secure
 /// messaging, 68 81 for another logical channel, 6E 00 for another class than 00 and 10.
 #[tactic(auto, unfolding(piv_model::specs::ApduForms::apdu_spelled))]
-pub fn read_apdu(bytes: &[u8]) -> Result<Apdu<'_>, u16>
+pub fn read_command(bytes: &[u8]) -> Result<Apdu<'_>, u16>
     ensures read { MatchResult result
         (λ apdu. apdu_spelled bytes.now ≡ Ok (apdu_of apdu))
         (λ word. apdu_spelled bytes.now ≡ Err word) }
@@ -85,7 +85,7 @@ pub fn read_apdu(bytes: &[u8]) -> Result<Apdu<'_>, u16>
 }
 
 /// Writes a command APDU into `out`, which is empty: class 00 or 10, at most 255 bytes of data, and
-/// Le where there is one. `read_apdu` reads it back.
+/// Le where there is one. `read_command` reads it back.
 pub fn write_command(class: u8, command: Command<'_>, le: Option<u8>, out: &mut ArrayVec<u8, 261>)
     requires class { (class ≡ 0x00) ⊎ (class ≡ 0x10) }
     requires small { length command.body.now ≤ 255 }

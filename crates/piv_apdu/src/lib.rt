@@ -6,5 +6,5 @@ mod replies;
 #[cfg(test)]
 mod tests;
 
-pub use commands::{read_apdu, write_command};
+pub use commands::{read_command, write_command};
 pub use replies::{read_reply, write_reply};

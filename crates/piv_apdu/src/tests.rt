@@ -1,4 +1,4 @@
-use crate::{read_apdu, read_reply, write_command, write_reply};
+use crate::{read_command, read_reply, write_command, write_reply};
 use arrayvec::ArrayVec;
 use piv_model::Command;
 use std::test::Fail;
@@ -35,7 +35,7 @@ fn reads_each_length_and_le_and_refuses_the_rest(rt: HostRuntime) -> Result<(), 
     ];
     for (bytes, read) in cases {
         assert!(rt;
-            read_apdu(bytes).map(|apdu| (apdu.body, apdu.most)) == read,
+            read_command(bytes).map(|apdu| (apdu.body, apdu.most)) == read,
             "{bytes:?}"
         );
     }
@@ -62,7 +62,7 @@ fn refuses_each_class_by_its_word(rt: HostRuntime) -> Result<(), Fail> {
     ];
     for (class, word) in refusals {
         let bytes = [class, 0xA4, 0x04, 0x00, 0x00, 0x00];
-        let read = read_apdu(&bytes).map(|apdu| apdu.class);
+        let read = read_command(&bytes).map(|apdu| apdu.class);
         assert!(rt; read == Err(word), "{class}");
     }
     Ok(())
@@ -75,7 +75,7 @@ fn only_three_prefixes_of_a_select_are_whole(rt: HostRuntime) -> Result<(), Fail
         0x00, 0x00,
     ];
     for end in 0..=17usize {
-        let read = read_apdu(&select[..end]).map(|apdu| (apdu.body.len(), apdu.most));
+        let read = read_command(&select[..end]).map(|apdu| (apdu.body.len(), apdu.most));
         let expected = match end {
             4 => Ok((0, 256)),
             5 => Ok((0, 11)),
@@ -124,7 +124,7 @@ fn writes_commands_of_each_length_with_and_without_le(rt: HostRuntime) -> Result
             Some(most) => (1, most as usize),
         };
         assert_eq!(rt; written.len(), 4 + lc + size + le);
-        let read = read_apdu(written).map(|apdu| (apdu.class, apdu.body.len(), apdu.most));
+        let read = read_command(written).map(|apdu| (apdu.class, apdu.body.len(), apdu.most));
         assert!(rt; read == Ok((class, size, most)), "{size} bytes");
     }
     Ok(())
