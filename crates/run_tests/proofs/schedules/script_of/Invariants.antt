@@ -1,5 +1,5 @@
 use Rattle.script_line.specs.Playable.{ArePlayable}
-use Rattle.script_runs.proofs.tests.script_of.Given as goal
+use Rattle.run_tests.proofs.schedules.script_of.Given as goal
 
 abbrev pub invariant-lines : goal.invariant-lines
 invariant-lines l = ArePlayable l.script.lines
