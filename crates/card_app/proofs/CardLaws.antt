@@ -1,8 +1,9 @@
 -- What a card stands for after a call.
-use Rattle.std.proofs.Common.{◌≡◌, ◌+◌, ℕ, Bool, true, false, List, [], ◌∷◌, Option, Some, None, IfSome, refl, ap, sym, ◌∙◌, subst, set, get_or, arith, length}
 use Rattle.std.specs.Prelude.{◌==◌, if◌then◌else◌, option_map, not, IsSome, position}
 use Rattle.std.specs.Vec.{with_items}
+use Rattle.std.proofs.Common.{◌≡◌, ◌+◌, ℕ, Bool, true, false, List, [], ◌∷◌, Option, Some, None, IfSome, refl, ap, sym, ◌∙◌, subst, set, get_or, arith, length}
 use Rattle.std.proofs.lemmas.List.{with_items_is}
+use Rattle.power_loss.specs.Power.{switched_off, switched_on}
 use Rattle.piv_model.specs.declared.store.Store.{Ghosts}
 use Rattle.piv_model.specs.declared.kinds.Interface.{Interface}
 use Rattle.piv_model.specs.declared.kinds.Took.{Took}
@@ -15,26 +16,25 @@ use Rattle.piv_model.specs.Entries.{Up, Note}
 use Rattle.piv_rules.specs.Acts.{Exchange, Mute, Connect, Records, entries}
 use Rattle.piv_rules.specs.Connections.{on, is_open, side, epoch}
 use Rattle.piv_rules.specs.Frames.{chain}
-use Rattle.piv_chaining.specs.Chains.{Chain, chain_of, held_by}
 use Rattle.piv_rules.specs.Legal.{is_locked, is_full, opened_count}
 use Rattle.piv_rules.specs.Memories.{mem}
-use Rattle.piv_rules.specs.StandsFor.{Attached, attached_of, CardState, StandsFor}
-use Rattle.piv_rules.specs.ConnectionSteps.{chain_length, fresh_on, with_at, after_reset, after_cut}
-use Rattle.piv_rules.proofs.StandsLaws.{attached-open, stands-opened, stands-closed, stands-noted, stands-reset, stands-cut, stands-up}
 use Rattle.piv_rules.proofs.Legality.{IsLegal-runs}
-use Rattle.piv_rules.proofs.LossLaws.{StartsWithTheBase-law}
-use Rattle.piv_rules.specs.NumberLaws.{IsUnused}
-use Rattle.piv_rules.proofs.Numbers.{unused-above}
-use Rattle.piv_rules.specs.StandsLaws.{opened_as, noted_as}
-use Rattle.power_loss.specs.Power.{switched_off, switched_on}
+use Rattle.card_laws.specs.StandsFor.{Attached, attached_of, CardState, StandsFor}
+use Rattle.card_laws.specs.ConnectionSteps.{chain_length, fresh_on, with_at, after_reset, after_cut}
+use Rattle.card_laws.specs.NumberLaws.{IsUnused}
+use Rattle.card_laws.specs.StandsLaws.{opened_as, noted_as}
+use Rattle.card_laws.proofs.StandsLaws.{attached-open, stands-opened, stands-closed, stands-noted, stands-reset, stands-cut, stands-up}
+use Rattle.card_laws.proofs.LossLaws.{StartsWithTheBase-law}
+use Rattle.card_laws.proofs.Numbers.{unused-above}
+use Rattle.piv_chaining.specs.Chains.{Chain, chain_of, held_by}
 use Rattle.card_app.specs.Acts.{closed_as, reset_as, cut_as, up_as}
-use Rattle.card_app.proofs.Counting.{full-none, full-free}
 use Rattle.card_app.specs.declared.card.Card.{Card}
 use Rattle.card_app.specs.declared.slot.Connection.{Connection}
 use Rattle.card_app.specs.declared.slot.Slot.{Slot}
 use Rattle.card_app.specs.Kept.{attached_as, attached_in, is_numbered, is_at, is_among, slot_attached, AreApart, EachBecameBy, IsPlaced, is_free}
 use Rattle.card_app.specs.Stands.{state_of, attached_to, CardStandsFor}
 use Rattle.card_app.specs.Flights.{told_of}
+use Rattle.card_app.proofs.Counting.{full-none, full-free}
 use Rattle.card_app.proofs.SlotLaws.{placed-attached, unfound, each-attached, each-apart, attached-set, apart-set, alone-placed, alone-free, found-none, IsFree}
 
 -- the card's own fields are as before

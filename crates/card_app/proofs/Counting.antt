@@ -1,16 +1,16 @@
 -- How many connections are open: as many as there are slots with one.
-use Rattle.std.proofs.Common.{◌≡◌, ◌≤◌, ◌<◌, ◌+◌, ℕ, suc, Bool, true, false, List, [], ◌∷◌, Option, Some, None, refl, ap, sym, ◌∙◌, eq-eqb, arith, length, length-set, set}
 use Rattle.std.specs.Prelude.{◌==◌, ◌||◌, if◌then◌else◌, position, is_some, nat_lt}
 use Rattle.std.specs.List.{position_or_len}
+use Rattle.std.proofs.Common.{◌≡◌, ◌≤◌, ◌<◌, ◌+◌, ℕ, suc, Bool, true, false, List, [], ◌∷◌, Option, Some, None, refl, ap, sym, ◌∙◌, eq-eqb, arith, length, length-set, set}
 use Rattle.std.proofs.lemmas.Bool.Decides.{nat_tests}
 use Rattle.piv_model.specs.Base.{Base}
 use Rattle.piv_rules.specs.Acts.{Records, entries}
 use Rattle.piv_rules.specs.Connections.{is_open}
 use Rattle.piv_rules.specs.Legal.{open_ones, is_full}
-use Rattle.piv_rules.specs.NumberLaws.{is_listed, AreDistinct}
-use Rattle.piv_rules.specs.StandsFor.{Attached, attached_of, CardState, StandsFor}
-use Rattle.piv_rules.proofs.Counting.{open-listed}
 use Rattle.piv_rules.proofs.Legality.{IsLegal-runs}
+use Rattle.card_laws.specs.NumberLaws.{is_listed, AreDistinct}
+use Rattle.card_laws.specs.StandsFor.{Attached, attached_of, CardState, StandsFor}
+use Rattle.card_laws.proofs.Counting.{open-listed}
 use Rattle.card_app.specs.declared.slot.Connection.{Connection}
 use Rattle.card_app.specs.declared.slot.Slot.{Slot}
 use Rattle.card_app.specs.Held.{taken_in, weight}

@@ -1,6 +1,6 @@
 -- When losses are due after an exchange, and how a plan goes on.
-use Rattle.std.proofs.Common.{◌≡◌, ℕ, true, false, List, ◌∷◌, Option, Some, None, IfSome, refl, ap, sym, ◌∙◌, subst}
 use Rattle.std.specs.Prelude.{option_map, if◌then◌else◌}
+use Rattle.std.proofs.Common.{◌≡◌, ℕ, true, false, List, ◌∷◌, Option, Some, None, IfSome, refl, ap, sym, ◌∙◌, subst}
 use Rattle.power_loss.specs.Due.{is_due, due_after, after_writes, after_loss}
 use Rattle.piv_model.specs.Base.{Base}
 use Rattle.piv_model.specs.Commands.{CardCommand}
@@ -9,10 +9,10 @@ use Rattle.piv_model.specs.Stores.{StoreState}
 use Rattle.piv_rules.specs.Acts.{Records, entries}
 use Rattle.piv_rules.specs.Memories.{mem}
 use Rattle.piv_rules.specs.Plans.{IsPlanOf, cost, cost_of}
-use Rattle.piv_rules.specs.PlanSteps.{IsToldAfter}
 use Rattle.piv_rules.specs.RandomBlocks.{next_block}
-use Rattle.piv_rules.specs.StandsFor.{Attached, CardState, StandsFor}
-use Rattle.piv_rules.proofs.PlanLaws.{PlansGoOn-law}
+use Rattle.card_laws.specs.PlanSteps.{IsToldAfter}
+use Rattle.card_laws.specs.StandsFor.{Attached, CardState, StandsFor}
+use Rattle.card_laws.proofs.PlanLaws.{PlansGoOn-law}
 use Rattle.card_commands.specs.declared.executed.Broken.{Broken}
 use Rattle.card_commands.specs.declared.executed.Executed.{Executed}
 use Rattle.card_commands.specs.Executes.{asked, replied}

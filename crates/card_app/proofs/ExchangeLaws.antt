@@ -1,6 +1,6 @@
 -- What a card stands for after an exchange.
-use Rattle.std.proofs.Common.{◌≡◌, ◌≤◌, ◌+◌, ℕ, true, false, List, [], ◌∷◌, Option, Some, None, refl, ap, sym, ◌∙◌, subst, inl, inr, length, eq-eqb}
 use Rattle.std.specs.Prelude.{◌&&◌, if◌then◌else◌, option_map}
+use Rattle.std.proofs.Common.{◌≡◌, ◌≤◌, ◌+◌, ℕ, true, false, List, [], ◌∷◌, Option, Some, None, refl, ap, sym, ◌∙◌, subst, inl, inr, length, eq-eqb}
 use Rattle.piv_model.specs.declared.kinds.Took.{Took}
 use Rattle.piv_model.specs.Commands.{CardCommand}
 use Rattle.piv_model.specs.Memory.{Memory}
@@ -21,18 +21,18 @@ use Rattle.piv_rules.specs.Memories.{mem}
 use Rattle.piv_rules.specs.RandomBlocks.{next_block}
 use Rattle.piv_rules.specs.StatusWords.{is_granted}
 use Rattle.piv_rules.specs.Turns.{cut_reply, called}
-use Rattle.piv_rules.specs.StandsFor.{Attached, CardState, StandsFor}
-use Rattle.piv_rules.specs.ConnectionSteps.{with_at, after_part, after_rest, after_bad, after_command, after_cut}
-use Rattle.piv_rules.proofs.ConnectionLaws.{attached-part, attached-rest, attached-bad, attached-call}
 use Rattle.piv_rules.proofs.Memories.{mem-step, profile_of-mem}
-use Rattle.piv_rules.proofs.StandsLaws.{attached-open, turned-exchange, stands-exchanged, stands-lost}
-use Rattle.piv_rules.proofs.LossLaws.{ToldMayBeTaken-law}
+use Rattle.card_laws.specs.StandsFor.{Attached, CardState, StandsFor}
+use Rattle.card_laws.specs.ConnectionSteps.{with_at, after_part, after_rest, after_bad, after_command, after_cut}
+use Rattle.card_laws.proofs.ConnectionLaws.{attached-part, attached-rest, attached-bad, attached-call}
+use Rattle.card_laws.proofs.StandsLaws.{attached-open, turned-exchange, stands-exchanged, stands-lost}
+use Rattle.card_laws.proofs.LossLaws.{ToldMayBeTaken-law}
 use Rattle.card_commands.specs.declared.executed.Broken.{Broken}
 use Rattle.card_commands.specs.declared.executed.Executed.{Executed}
 use Rattle.card_commands.specs.Tells.{tells, IsApt}
 use Rattle.card_commands.specs.Carried.{Breaks, last_lines_word}
-use Rattle.card_commands.proofs.LossLemmas.{told-broken, lost-word}
 use Rattle.card_commands.specs.Executes.{asked, replied, borne}
+use Rattle.card_commands.proofs.LossLemmas.{told-broken, lost-word}
 use Rattle.card_app.specs.Exchanges.{IsPart, IsRest, IsBad, IsCall, IsLost}
 
 -- ---- a part, a further piece, a refusal

@@ -1,26 +1,25 @@
 -- The bytes of open chains, and which numbers are attached.
-use Rattle.std.proofs.Common.{◌≡◌, ◌<◌, ◌≤◌, ◌+◌, ℕ, zero, suc, Bool, true, false, List, [], ◌∷◌, ◌++◌, Option, Some, None, refl, ap, sym, ◌∙◌, subst, arith, length, get_or, set, eqb-true, eq-eqb, IfSome}
 use Rattle.std.specs.Prelude.{not, ◌==◌, ◌||◌, if◌then◌else◌, option_map, is_some, IsSome}
+use Rattle.std.specs.Vec.{with_items}
+use Rattle.std.specs.declared.vec.Vec.{Vec}
+use Rattle.std.proofs.Common.{◌≡◌, ◌<◌, ◌≤◌, ◌+◌, ℕ, zero, suc, Bool, true, false, List, [], ◌∷◌, ◌++◌, Option, Some, None, refl, ap, sym, ◌∙◌, subst, arith, length, get_or, set, eqb-true, eq-eqb, IfSome, get_or-set_same, length-set}
+use Rattle.std.proofs.lemmas.List.{with_items_is}
 use Rattle.piv_model.specs.Commands.{CardCommand}
+use Rattle.piv_model.specs.Entries.{CardEntry}
+use Rattle.piv_model.specs.Written.{command_length}
+use Rattle.piv_model.specs.Stores.{StoreState}
+use Rattle.piv_rules.specs.Acts.{CardRecord}
+use Rattle.card_laws.specs.StandsFor.{Attached}
 use Rattle.piv_chaining.specs.Chains.{Chain, held_by}
-use Rattle.piv_rules.specs.StandsFor.{Attached}
+use Rattle.card_commands.specs.declared.executed.Broken.{Broken}
 use Rattle.card_app.specs.declared.exchanging.Exchanged.{Exchanged}
 use Rattle.card_app.specs.declared.exchanging.Exchanged.TheVariants as made
 use Rattle.card_app.specs.declared.slot.Connection.{Connection}
 use Rattle.card_app.specs.declared.slot.Slot.{Slot}
 use Rattle.card_app.specs.Kept.{attached_as, is_numbered, is_at, slot_attached, attached_in, is_among, EachBecameBy, IsPlaced}
 use Rattle.card_app.specs.Held.{held_in, taken, KeepsHeld, taken_in, weight}
-use Rattle.std.specs.Vec.{with_items}
-use Rattle.std.specs.declared.vec.Vec.{Vec}
-use Rattle.std.proofs.lemmas.List.{with_items_is}
-use Rattle.std.proofs.Common.{get_or-set_same, length-set}
-use Rattle.piv_model.specs.Entries.{CardEntry}
-use Rattle.piv_model.specs.Written.{command_length}
-use Rattle.piv_rules.specs.Acts.{CardRecord}
-use Rattle.card_commands.specs.declared.executed.Broken.{Broken}
 use Rattle.card_app.specs.declared.card.Outcome.{Outcome}
 use Rattle.card_app.specs.declared.card.Turned.{Turned}
-use Rattle.piv_model.specs.Stores.{StoreState}
 use Rattle.card_app.specs.Exchanges.{leaves_on, LeavesStore}
 use Rattle.card_app.specs.Outcomes.{exchange_by, exchange_made, entry_by, entry_of_made, LeavesOf}
 use Rattle.card_app.proofs.SlotLaws.{IsFree}

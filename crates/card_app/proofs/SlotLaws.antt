@@ -1,11 +1,11 @@
 -- Connections in slots: one slot set anew, and all of them.
-use Rattle.std.proofs.Common.{◌≡◌, ◌<◌, ◌≤◌, ◌+◌, ℕ, zero, suc, Bool, true, false, List, [], ◌∷◌, ◌++◌, Option, Some, None, refl, ap, sym, ◌∙◌, eqb-true, subst, arith, length, get_or, set}
 use Rattle.std.specs.Prelude.{◌==◌, ◌||◌, if◌then◌else◌, option_map, is_none, position, IsSome, is_some, nat_lt}
 use Rattle.std.specs.List.{position_or_len}
+use Rattle.std.proofs.Common.{◌≡◌, ◌<◌, ◌≤◌, ◌+◌, ℕ, zero, suc, Bool, true, false, List, [], ◌∷◌, ◌++◌, Option, Some, None, refl, ap, sym, ◌∙◌, eqb-true, subst, arith, length, get_or, set}
 use Rattle.std.proofs.lemmas.Bool.Decides.{nat_tests}
 use Rattle.std.proofs.lemmas.List.Quantifiers.{position-Some}
-use Rattle.piv_rules.specs.StandsFor.{Attached}
-use Rattle.piv_rules.specs.ConnectionSteps.{with_at}
+use Rattle.card_laws.specs.StandsFor.{Attached}
+use Rattle.card_laws.specs.ConnectionSteps.{with_at}
 use Rattle.card_app.specs.declared.slot.Connection.{Connection}
 use Rattle.card_app.specs.declared.slot.Slot.{Slot}
 use Rattle.card_app.specs.Kept.{attached_as, is_numbered, is_at, slot_attached, attached_in, is_among, AreApart, EachBecameBy, is_free, IsPlaced, AreFree}

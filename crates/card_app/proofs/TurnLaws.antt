@@ -1,8 +1,8 @@
 -- What a card stands for after an exchange in one of its slots.
-use Rattle.std.proofs.Common.{◌≡◌, ◌≤◌, ◌+◌, ℕ, Bool, true, false, List, [], ◌∷◌, Option, Some, None, IfSome, refl, ap, sym, ◌∙◌, subst, set, get_or, eqb-true, zero, suc, length, ◌<◌, arith}
 use Rattle.std.specs.Prelude.{◌==◌, if◌then◌else◌, option_map, IsSome, not}
 use Rattle.std.specs.Vec.{with_items}
 use Rattle.std.specs.declared.vec.Vec.{Vec}
+use Rattle.std.proofs.Common.{◌≡◌, ◌≤◌, ◌+◌, ℕ, Bool, true, false, List, [], ◌∷◌, Option, Some, None, IfSome, refl, ap, sym, ◌∙◌, subst, set, get_or, eqb-true, zero, suc, length, ◌<◌, arith}
 use Rattle.std.proofs.lemmas.List.{with_items_is}
 use Rattle.piv_model.specs.declared.store.Store.{Ghosts}
 use Rattle.piv_model.specs.Commands.{CardCommand}
@@ -16,9 +16,9 @@ use Rattle.piv_rules.specs.Connections.{epoch, side}
 use Rattle.piv_rules.specs.Frames.{Frame}
 use Rattle.piv_rules.specs.Memories.{mem}
 use Rattle.piv_rules.specs.RandomBlocks.{next_block}
-use Rattle.piv_rules.specs.StandsFor.{Attached, StandsFor}
-use Rattle.piv_rules.specs.ConnectionSteps.{fresh_on, with_at, after_cut}
-use Rattle.piv_rules.proofs.StandsLaws.{attached-open}
+use Rattle.card_laws.specs.StandsFor.{Attached, StandsFor}
+use Rattle.card_laws.specs.ConnectionSteps.{fresh_on, with_at, after_cut}
+use Rattle.card_laws.proofs.StandsLaws.{attached-open}
 use Rattle.card_commands.specs.declared.executed.Broken.{Broken}
 use Rattle.card_commands.proofs.LossLemmas.{lost-told}
 use Rattle.card_app.specs.declared.card.Card.{Card}

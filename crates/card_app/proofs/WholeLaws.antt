@@ -1,7 +1,7 @@
 -- A whole command, by the APDU that ends its chain.
-use Rattle.power_loss.specs.Due.{is_due}
-use Rattle.std.proofs.Common.{◌≡◌, ℕ, Bool, true, false, List, Option, Some, None, IfSome, [], length, drop, subst, refl, ap, sym, ◌∙◌}
 use Rattle.std.specs.Prelude.{Ok, not, ◌&&◌, ◌↔◌, if◌then◌else◌}
+use Rattle.std.proofs.Common.{◌≡◌, ℕ, Bool, true, false, List, Option, Some, None, IfSome, [], length, drop, subst, refl, ap, sym, ◌∙◌}
+use Rattle.power_loss.specs.Due.{is_due}
 use Rattle.piv_model.specs.Commands.{CardCommand, CardApdu}
 use Rattle.piv_model.specs.Chains.{Link, PartOf, WholeOf, RefusedBy, linked}
 use Rattle.piv_model.specs.ApduForms.{apdu_spelled}
@@ -12,15 +12,15 @@ use Rattle.piv_rules.specs.Answers.{Reply}
 use Rattle.piv_rules.specs.Plans.{cost_of}
 use Rattle.piv_rules.specs.StatusWords.{is_granted}
 use Rattle.piv_rules.specs.Turns.{cut_reply}
-use Rattle.card_commands.specs.declared.executed.Executed.{Executed}
-use Rattle.card_commands.specs.Executes.{asked, replied, IsAnswered}
 use Rattle.piv_rules.specs.Frames.{WholeFrame, frame_of, frame_by, fetches, is_get_response}
-use Rattle.piv_rules.specs.StandsFor.{Attached}
-use Rattle.piv_rules.proofs.FrameTies.{frame-linked}
+use Rattle.card_laws.specs.StandsFor.{Attached}
+use Rattle.card_laws.proofs.FrameTies.{frame-linked}
 use Rattle.piv_chaining.specs.declared.joiner.Joining.TheVariants.{Whole}
 use Rattle.piv_chaining.specs.Chains.{Chain, chain_of}
 use Rattle.piv_chaining.specs.Fed.{IsFed}
 use Rattle.piv_chaining.specs.Waiting.{Waiting}
+use Rattle.card_commands.specs.declared.executed.Executed.{Executed}
+use Rattle.card_commands.specs.Executes.{asked, replied, IsAnswered}
 use Rattle.card_app.specs.declared.slot.Connection.{Connection}
 use Rattle.card_app.specs.declared.exchanging.Exchanged.{Exchanged}
 use Rattle.card_app.specs.declared.exchanging.Exchanged.TheVariants as made

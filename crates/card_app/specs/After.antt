@@ -7,7 +7,7 @@ use Rattle.piv_model.specs.Written.{command_length}
 use Rattle.piv_rules.specs.Acts.{CardRecord, Records, entries}
 use Rattle.piv_rules.specs.Connections.{epoch, side}
 use Rattle.piv_rules.specs.RandomBlocks.{next_block}
-use Rattle.piv_rules.specs.StandsFor.{Attached}
+use Rattle.card_laws.specs.StandsFor.{Attached}
 use Rattle.card_app.specs.declared.card.Card.{Card}
 use Rattle.card_app.specs.declared.card.Outcome.{Outcome}
 use Rattle.card_app.specs.Exchanges.{frame_on}

@@ -8,12 +8,12 @@ use Rattle.piv_model.specs.Commands.{CardCommand, CardApdu}
 use Rattle.piv_model.specs.Memory.{Memory}
 use Rattle.piv_model.specs.Stores.{StoreState}
 use Rattle.piv_rules.specs.Acts.{Replied}
-use Rattle.piv_rules.specs.ConnectionSteps.{after_part, after_rest, after_bad}
 use Rattle.piv_rules.specs.Frames.{Frame, BadFrame, PartFrame, RestFrame, WholeFrame, frame_of}
 use Rattle.piv_rules.specs.Plans.{cost_of}
-use Rattle.piv_rules.specs.StandsFor.{Attached}
 use Rattle.piv_rules.specs.StatusWords.{is_granted}
 use Rattle.piv_rules.specs.Turns.{cut_reply}
+use Rattle.card_laws.specs.ConnectionSteps.{after_part, after_rest, after_bad}
+use Rattle.card_laws.specs.StandsFor.{Attached}
 use Rattle.piv_chaining.specs.Waiting.{Waiting}
 use Rattle.card_commands.specs.declared.executed.Broken.{Broken}
 use Rattle.card_commands.specs.declared.executed.Executed.{Executed}

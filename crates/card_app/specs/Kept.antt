@@ -1,10 +1,10 @@
 -- What is kept of the connections, as the rules see it.
 use Rattle.std.specs.Prelude.{◌≡◌, ◌<◌, ◌≤◌, length, slice_index_or, ℕ, zero, suc, Bool, true, false, ◌==◌, List, [], ◌∷◌, Option, Some, None, is_none, option_map, if◌then◌else◌}
 use Rattle.std.specs.List.{list_any}
-use Rattle.card_commands.specs.Connections.{channel_of}
+use Rattle.card_laws.specs.StandsFor.{Attached}
 use Rattle.piv_chaining.specs.Chains.{Chain, chain_of, held_by}
 use Rattle.piv_chaining.specs.Waiting.{Waiting}
-use Rattle.piv_rules.specs.StandsFor.{Attached}
+use Rattle.card_commands.specs.Connections.{channel_of}
 use Rattle.card_app.specs.declared.slot.Connection.{Connection}
 use Rattle.card_app.specs.declared.slot.Slot.{Slot}
 

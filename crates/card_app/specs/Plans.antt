@@ -4,7 +4,7 @@ use Rattle.piv_model.specs.Base.{Base}
 use Rattle.piv_model.specs.Entries.{CardEntry, Past}
 use Rattle.piv_model.specs.Stores.{StoreState}
 use Rattle.piv_rules.specs.Plans.{IsPlanOf}
-use Rattle.piv_rules.specs.PlanSteps.{IsToldAfter}
+use Rattle.card_laws.specs.PlanSteps.{IsToldAfter}
 
 -- a command loses power exactly where the first number is at most its cost, which the numbers then fall by; every other
 -- entry leaves them

@@ -4,7 +4,7 @@ use Rattle.piv_model.specs.declared.store.Store.{Ghosts}
 use Rattle.piv_model.specs.Base.{Base}
 use Rattle.piv_model.specs.Stores.{StoreState}
 use Rattle.piv_rules.specs.Acts.{Records}
-use Rattle.piv_rules.specs.StandsFor.{Attached, CardState, StandsFor}
+use Rattle.card_laws.specs.StandsFor.{Attached, CardState, StandsFor}
 use Rattle.piv_chaining.specs.Chains.{held_by}
 use Rattle.card_app.specs.declared.card.Card.{Card}
 use Rattle.card_app.specs.Flights.{told_of}

@@ -1,9 +1,9 @@
 // A connection with its buffers.
 ghost use Rattle.std.specs.Prelude.{◌≡◌, ◌<◌, ◌≤◌, length, position, IfSome};
-ghost use Rattle.piv_rules.specs.ConnectionSteps.{after_reset, after_cut};
+ghost use Rattle.card_laws.specs.ConnectionSteps.{after_reset, after_cut};
+ghost use Rattle.piv_chaining.specs.Chains.{held_by};
 ghost use Rattle.card_app.specs.Kept.{is_at, slot_attached, is_free, EachBecameBy};
 ghost use Rattle.card_app.specs.declared.slot.Slot.{Slot};
-ghost use Rattle.piv_chaining.specs.Chains.{held_by};
 
 use card_commands::Conn;
 use piv_chaining::{Joiner, Pieces};
@@ -28,7 +28,7 @@ pub(crate) struct Slot {
 impl Slot {
     ghost use Rattle.std.specs.Prelude.{Some, None, option_map, ℕ};
     ghost use Rattle.piv_model.specs.declared.kinds.Interface.{Interface};
-    ghost use Rattle.piv_rules.specs.ConnectionSteps.{fresh_on};
+    ghost use Rattle.card_laws.specs.ConnectionSteps.{fresh_on};
 
     // Whether it has the connection of this number.
     pub(crate) fn is_at(&self, c: u32) -> bool

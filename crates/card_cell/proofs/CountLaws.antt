@@ -1,10 +1,10 @@
 -- The comparisons without a match, after one entry more.
-use Rattle.std.proofs.Common.{◌≡◌, ◌≤◌, ◌+◌, ℕ, Bool, true, false, [], ◌∷◌, Option, Some, None, refl, sym, ◌∙◌, arith}
 use Rattle.std.specs.Prelude.{min, ◌&&◌, option_map, if◌then◌else◌}
+use Rattle.std.proofs.Common.{◌≡◌, ◌≤◌, ◌+◌, ℕ, Bool, true, false, [], ◌∷◌, Option, Some, None, refl, sym, ◌∙◌, arith}
+use Rattle.std.proofs.lemmas.Bool.Decides.{nat_tests}
 use Rattle.piv_model.specs.declared.kinds.RefId.{RefId}
 use Rattle.piv_model.specs.declared.kinds.Took.{Took}
 use Rattle.piv_model.specs.declared.kinds.Took.TheVariants.{Nothing, Spent, Done}
-use Rattle.std.proofs.lemmas.Bool.Decides.{nat_tests}
 use Rattle.piv_model.specs.Base.{Base, profile}
 use Rattle.piv_model.specs.Commands.{CardCommand}
 use Rattle.piv_model.specs.Entries.{CardEntry, Past, Call, Up}
@@ -15,7 +15,7 @@ use Rattle.piv_rules.specs.Effects.{took_by}
 use Rattle.piv_rules.specs.Legal.{IsLegal}
 use Rattle.piv_rules.specs.Lookback.{count_after}
 use Rattle.piv_rules.specs.Memories.{did, did_so, running, fills, spends, filled_by, spent_by, same_reference, is_call, comparisons, spends_since}
-use Rattle.piv_rules.proofs.Limits.{SpendsAreLimited-law, ComparisonsAreLimited-law}
+use Rattle.command_laws.proofs.Limits.{SpendsAreLimited-law, ComparisonsAreLimited-law}
 use Rattle.card_cell.specs.declared.compared.Comparison.{Comparison}
 use Rattle.card_cell.specs.declared.tally.Tally.{Tally}
 use Rattle.card_cell.specs.Counts.{comparison_of, comparison_running, after_call, after_up}

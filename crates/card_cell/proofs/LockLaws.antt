@@ -1,14 +1,14 @@
 -- A new connection is locked exactly where one that is kept bars it.
-use Rattle.std.proofs.Common.{◌≡◌, ◌≤◌, ℕ, zero, suc, Bool, true, false, List, [], ◌∷◌, Option, Some, None, refl, ap, sym, ◌∙◌, subst, arith, eq-eqb, eqb-true, find}
 use Rattle.std.specs.Prelude.{not, nat_lt, ◌&&◌, ◌||◌, ◌==◌, option_map, if◌then◌else◌}
 use Rattle.std.specs.List.{list_any}
+use Rattle.std.proofs.Common.{◌≡◌, ◌≤◌, ℕ, zero, suc, Bool, true, false, List, [], ◌∷◌, Option, Some, None, refl, ap, sym, ◌∙◌, subst, arith, eq-eqb, eqb-true, find}
 use Rattle.std.proofs.lemmas.Bool.Decides.{nat_tests}
 use Rattle.piv_model.specs.declared.kinds.Interface.{Interface}
 use Rattle.piv_model.specs.Base.{Base}
 use Rattle.piv_model.specs.Entries.{Past}
 use Rattle.piv_rules.specs.Connections.{is_open, side, is_exclusive, same_side}
 use Rattle.piv_rules.specs.Legal.{IsLegal, is_locked, open_among, opened_count}
-use Rattle.piv_rules.proofs.Counting.{open-within}
+use Rattle.card_laws.proofs.Counting.{open-within}
 use Rattle.card_cell.specs.declared.connections.Open.{Open}
 use Rattle.card_cell.specs.Kept.{has_number, kept_in, kept_as, kept_of, are_below, bars}
 use Rattle.card_cell.proofs.KeptLaws.{both, below-none}

@@ -1,6 +1,6 @@
 -- One turn of a cell.
-use Rattle.std.proofs.Common.{◌≡◌, ◌<◌, ◌+◌, ℕ, Bool, true, false, List, ◌∷◌, Option, Some, None, IfSome, refl, ap, sym, ◌∙◌, subst, arith, length}
 use Rattle.std.specs.Prelude.{nat_lt, if◌then◌else◌}
+use Rattle.std.proofs.Common.{◌≡◌, ◌<◌, ◌+◌, ℕ, Bool, true, false, List, ◌∷◌, Option, Some, None, IfSome, refl, ap, sym, ◌∙◌, subst, arith, length}
 use Rattle.std.proofs.lemmas.Bool.Decides.{nat_tests}
 use Rattle.std.proofs.lemmas.List.Sums.{count_by-le-length}
 use Rattle.piv_model.specs.declared.store.Store.{Ghosts}
@@ -14,11 +14,11 @@ use Rattle.piv_rules.specs.Acts.{CardAct, Connect, Disconnect, Exchange, ResetSi
 use Rattle.piv_rules.specs.Connections.{on, is_open, side, epoch, is_epoch_end}
 use Rattle.piv_rules.specs.Legal.{is_locked}
 use Rattle.piv_rules.specs.Plans.{IsPlanOf}
-use Rattle.piv_rules.specs.PlanSteps.{IsToldAfter}
 use Rattle.piv_rules.specs.RandomBlocks.{draws, draws_count}
 use Rattle.piv_rules.specs.Turns.{refused, kind_of, answer_of, epoch_told}
-use Rattle.piv_rules.proofs.PlanLaws.{PlansGoOn-law}
-use Rattle.piv_rules.proofs.StandsLaws.{stands-noted}
+use Rattle.card_laws.specs.PlanSteps.{IsToldAfter}
+use Rattle.card_laws.proofs.PlanLaws.{PlansGoOn-law}
+use Rattle.card_laws.proofs.StandsLaws.{stands-noted}
 use Rattle.challenge_blocks.specs.Next.{IsNext}
 use Rattle.challenge_blocks.specs.declared.blocks.Blocks.{Blocks}
 use Rattle.card_app.specs.declared.card.Card.{Card}

@@ -1,3 +1,6 @@
+pub mod ExampleRows
+pub mod ChallengeExample
+pub mod ConnectionRows
 pub mod LimitRows
 pub mod RefusalRows
 pub mod PolicyRows

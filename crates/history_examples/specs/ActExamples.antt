@@ -7,9 +7,9 @@ use Rattle.piv_model.specs.declared.kinds.Took.TheVariants.{Nothing}
 use Rattle.piv_model.specs.Entries.{◌▸◌, Opened, Closed, Reset, Cut, Up, Note}
 use Rattle.piv_model.specs.PlainCard.{plain_pin}
 use Rattle.piv_rules.specs.Acts.{Connect, Disconnect, Exchange, ResetSide, CutPower, PowerOn, Connected, Mute, Stale, NoConnection, WasReset, WasCut, IsUp, CardRecord, Records}
-use Rattle.piv_rules.specs.Examples.{plain, start, open_record, selected_first, verify}
 use Rattle.piv_rules.specs.Legal.{IsAllowed}
 use Rattle.piv_rules.specs.Turns.{refused, IsTurned, LosesPower}
+use Rattle.history_examples.specs.Examples.{plain, start, open_record, selected_first, verify}
 use Rattle.history_examples.specs.LimitExamples.{sixteen}
 
 -- an exchange that its caller sends after a reset that it doesn't know of is stale; one of the other interface breaks nothing; a card

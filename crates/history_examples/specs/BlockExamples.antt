@@ -3,8 +3,8 @@
 use Rattle.std.specs.Prelude.{◌≡◌, ℕ, List, [], ◌∷◌, replicate}
 use Rattle.piv_model.specs.ApplicationNames.{full_aid}
 use Rattle.piv_rules.specs.Answers.{piv_template}
-use Rattle.piv_rules.specs.Examples.{plain, start, replies, select, ask_challenge, with_data, first_block}
 use Rattle.piv_rules.specs.RandomBlocks.{random_block}
+use Rattle.history_examples.specs.Examples.{plain, start, replies, select, ask_challenge, with_data, first_block}
 
 abbrev pub second_block : List ℕ
 second_block =

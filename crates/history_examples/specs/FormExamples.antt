@@ -9,8 +9,8 @@ use Rattle.piv_model.specs.Commands.{CardCommand}
 use Rattle.piv_model.specs.Forms.{is_pin, discovery_head}
 use Rattle.piv_model.specs.PlainCard.{plain_pin, plain_puk}
 use Rattle.piv_rules.specs.Asks.{Refused, Get, Put, Compare, AskChallenge, Change, Unblock, ask}
-use Rattle.piv_rules.specs.ConnectionExamples.{with_global, short_pin}
-use Rattle.piv_rules.specs.Examples.{plain, start, replies, select, unblock, authenticate, with_data, new_pin, wrong_puk, zeros}
+use Rattle.history_examples.specs.ConnectionExamples.{with_global, short_pin}
+use Rattle.history_examples.specs.Examples.{plain, start, replies, select, unblock, authenticate, with_data, new_pin, wrong_puk, zeros}
 use Rattle.history_examples.specs.RefusalExamples.{put_data, tagged}
 
 -- a PIN has 6 to 8 digits, and FF behind them alone

@@ -1,3 +1,5 @@
+pub mod Examples
+pub mod ConnectionExamples
 pub mod LimitExamples
 pub mod RefusalExamples
 pub mod PolicyExamples

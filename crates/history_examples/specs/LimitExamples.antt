@@ -11,11 +11,11 @@ use Rattle.piv_model.specs.declared.kinds.Took.TheVariants.{Nothing}
 use Rattle.piv_model.specs.Entries.{Past, ◌▸◌, Opened, Call, Part, Rest, Bad, Reset, Cut, Up, Note}
 use Rattle.piv_model.specs.PlainCard.{plain_pin}
 use Rattle.piv_rules.specs.Acts.{Connect}
-use Rattle.piv_rules.specs.Examples.{plain, start, after, select, get_chuid, verify, query, log_out, ask_challenge, wrong_pin, put_chuid, blocked, administered, selected_first, get_response_apdu}
 use Rattle.piv_rules.specs.Frames.{RestFrame, frame_of}
 use Rattle.piv_rules.specs.Legal.{IsAllowed}
 use Rattle.piv_rules.specs.Plans.{cost}
 use Rattle.piv_rules.specs.Turns.{refused}
+use Rattle.history_examples.specs.Examples.{plain, start, after, select, get_chuid, verify, query, log_out, ask_challenge, wrong_pin, put_chuid, blocked, administered, selected_first, get_response_apdu}
 
 -- a piece of 256 bytes: none left is 90 00, 255 left are 61 FF, and 256 and more are 61 00
 abbrev pub fives : ℕ → List ℕ

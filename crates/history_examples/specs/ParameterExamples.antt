@@ -8,8 +8,8 @@ use Rattle.piv_model.specs.Base.{profile}
 use Rattle.piv_model.specs.Commands.{CardCommand}
 use Rattle.piv_model.specs.PlainCard.{plain_puk}
 use Rattle.piv_rules.specs.Asks.{Refused, Logout, Query, Compare, Verify, Change, ask}
-use Rattle.piv_rules.specs.ConnectionExamples.{with_global, global_pin}
-use Rattle.piv_rules.specs.Examples.{plain, start, words, apdu, select, unblock, query, verify, new_pin, wrong_puk}
+use Rattle.history_examples.specs.ConnectionExamples.{with_global, global_pin}
+use Rattle.history_examples.specs.Examples.{plain, start, words, apdu, select, unblock, query, verify, new_pin, wrong_puk}
 use Rattle.history_examples.specs.FormExamples.{change_at}
 
 -- wrong parameters come before the data, whatever these are

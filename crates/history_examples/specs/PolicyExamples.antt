@@ -5,8 +5,8 @@ use Rattle.piv_model.specs.Base.{Base}
 use Rattle.piv_model.specs.Changes.{with_object}
 use Rattle.piv_model.specs.Forms.{discovery_head}
 use Rattle.piv_model.specs.Objects.{discovery_place}
-use Rattle.piv_rules.specs.ConnectionExamples.{with_global, global_pin, verify_global}
-use Rattle.piv_rules.specs.Examples.{start, words, select, get_printed}
+use Rattle.history_examples.specs.ConnectionExamples.{with_global, global_pin, verify_global}
+use Rattle.history_examples.specs.Examples.{start, words, select, get_printed}
 
 -- the card with a Global PIN, under this policy
 abbrev pub under : List ℕ → Base

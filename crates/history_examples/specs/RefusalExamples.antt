@@ -7,9 +7,9 @@ use Rattle.piv_model.specs.Commands.{CardCommand}
 use Rattle.piv_model.specs.PlainCard.{plain_pin, plain_chuid, plain_discovery}
 use Rattle.piv_rules.specs.Answers.{piv_template}
 use Rattle.piv_rules.specs.Asks.{Refused, Put, Internal, AskChallenge, Mutual, ask}
-use Rattle.piv_rules.specs.ConnectionExamples.{short_pin}
-use Rattle.piv_rules.specs.Examples.{plain, start, replies, select, get_chuid, with_data, verify_part, apdu, authenticate, zeros, counting}
 use Rattle.piv_rules.specs.Frames.{BadFrame, PartFrame, RestFrame, WholeFrame, frame_of}
+use Rattle.history_examples.specs.ConnectionExamples.{short_pin}
+use Rattle.history_examples.specs.Examples.{plain, start, replies, select, get_chuid, with_data, verify_part, apdu, authenticate, zeros, counting}
 
 -- VERIFY: a wrong P1 comes before a wrong reference, and a wrong reference before a wrong form
 abbrev pub verify_at : ℕ → ℕ → List ℕ → CardCommand

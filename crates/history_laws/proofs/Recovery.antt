@@ -1,7 +1,7 @@
 -- What a loss of power leaves, and what may be said of it.
-use Rattle.std.proofs.Common.{◌≡◌, ℕ, Bool, true, false, List, [], ◌∷◌, Option, Some, None, refl, ap, sym, ◌∙◌, arith, inl, inr, eq-eqb, eqb-true, subst}
 use Rattle.std.specs.Prelude.{◌||◌, ◌==◌, ◌⊎◌, option_map}
 use Rattle.std.specs.Str.{bytes_eq}
+use Rattle.std.proofs.Common.{◌≡◌, ℕ, Bool, true, false, List, [], ◌∷◌, Option, Some, None, refl, ap, sym, ◌∙◌, arith, inl, inr, eq-eqb, eqb-true, subst}
 use Rattle.std.proofs.lemmas.Bool.Decides.{nat_tests}
 use Rattle.std.proofs.lemmas.Slice.Eq.{bytes_eq-Decides}
 use Rattle.piv_model.specs.declared.kinds.RefId.{RefId}
@@ -20,16 +20,16 @@ use Rattle.piv_rules.specs.Answers.{Situation, situation_of, answer, answer_to, 
 use Rattle.piv_rules.specs.Losses.{can_come, MayBeSaid}
 use Rattle.piv_rules.specs.Legal.{IsLegal, IsAllowed, is_writer}
 use Rattle.piv_rules.specs.Turns.{called}
-use Rattle.piv_rules.specs.HistoryLaws.{before_loss}
 use Rattle.piv_rules.proofs.Memories.{mem-step}
-use Rattle.piv_rules.proofs.LossLaws.{UpsTellTheMemory-law, OffLeavesTheMemory-law}
-use Rattle.history_laws.specs.LoginLaws.{is_miss}
+use Rattle.card_laws.specs.LossLaws.{before_loss}
+use Rattle.card_laws.proofs.LossLaws.{UpsTellTheMemory-law, OffLeavesTheMemory-law}
+use Rattle.command_laws.proofs.Limits.{after-spent}
+use Rattle.login_laws.specs.LoginLaws.{is_miss}
+use Rattle.login_laws.proofs.Writers.{writer-answer}
+use Rattle.login_laws.proofs.Tries.{after-nothing}
+use Rattle.login_laws.proofs.Bools.{not-true, granted-word, or-last}
+use Rattle.login_laws.proofs.Logins.{miss-is}
 use Rattle.history_laws.specs.RecoveryLaws.{writes, WritersLosePower, IsOneTryLess, IsCarriedOut, RecoveryKeepsAPrefix, IdleLossesChangeNothing, CanBeSaid, WhatIsLeftCanBeSaid, TheFirstIsSaid}
-use Rattle.history_laws.proofs.Writers.{writer-answer}
-use Rattle.piv_rules.proofs.Limits.{after-spent}
-use Rattle.history_laws.proofs.Tries.{after-nothing}
-use Rattle.history_laws.proofs.Bools.{not-true, granted-word, or-last}
-use Rattle.history_laws.proofs.Logins.{miss-is}
 
 -- ---- what is left
 

@@ -1,6 +1,6 @@
 -- The memory of a card over a history.
-use Rattle.std.proofs.Common.{◌≡◌, ℕ, Bool, true, false, List, [], ◌∷◌, Option, Some, None, refl, ap, sym, ◌∙◌, subst}
 use Rattle.std.specs.Prelude.{if◌then◌else◌, IsTrue, ◌||◌, is_some, option_map}
+use Rattle.std.proofs.Common.{◌≡◌, ℕ, Bool, true, false, List, [], ◌∷◌, Option, Some, None, refl, ap, sym, ◌∙◌, subst}
 use Rattle.piv_model.specs.declared.kinds.RefId.TheVariants.{Pin}
 use Rattle.piv_model.specs.declared.kinds.KeyId.{KeyId}
 use Rattle.piv_model.specs.declared.kinds.KeyId.TheVariants.{AdminKey, CardAuth}
@@ -20,16 +20,16 @@ use Rattle.piv_rules.specs.Effects.{memory_after, took_by}
 use Rattle.piv_rules.specs.Memories.{running, mem, did}
 use Rattle.piv_rules.specs.Answers.{answer, answer_to, Reply, situation_of}
 use Rattle.piv_rules.specs.Legal.{IsLegal, IsAllowed}
-use Rattle.piv_rules.specs.HistoryLaws.{before_loss}
 use Rattle.piv_rules.proofs.Memories.{mem-step, profile_of-mem}
-use Rattle.piv_rules.proofs.LossLaws.{StartsWithTheBase-law, OffLeavesTheMemory-law}
-use Rattle.piv_rules.proofs.WordLaws.{PutWords-law}
-use Rattle.history_laws.specs.AskLaws.{IsProper}
+use Rattle.card_laws.specs.LossLaws.{before_loss}
+use Rattle.card_laws.proofs.LossLaws.{StartsWithTheBase-law, OffLeavesTheMemory-law}
+use Rattle.command_laws.proofs.WordLaws.{PutWords-law}
+use Rattle.login_laws.specs.AskLaws.{IsProper}
+use Rattle.login_laws.proofs.Asking.{AsksAreProper-law}
+use Rattle.login_laws.proofs.Bools.{not-true, granted-word}
+use Rattle.login_laws.proofs.Writers.{other-command, writer-answer}
 use Rattle.history_laws.specs.MemoryLaws.{MemoriesAreSound, SomeThingsLast}
-use Rattle.history_laws.proofs.Asking.{AsksAreProper-law}
-use Rattle.history_laws.proofs.Bools.{not-true, granted-word}
 use Rattle.history_laws.proofs.Recovery.{lost-allowed, put-granted}
-use Rattle.history_laws.proofs.Writers.{other-command, writer-answer}
 
 -- what a command did keeps a memory sound, where a value that was put had room
 after-sound : (B : Base) (a : Ask) (t : Took) (m : Memory) → IsSound m → is_some m.global ≡ is_some B.memory.global → IsProper B.memory a

@@ -1,14 +1,4 @@
-pub mod Lasts
-pub mod AskLaws
-pub mod LoginLaws
-pub mod TriesLaws
 pub mod RecoveryLaws
-pub mod OpenLaws
-pub mod ChallengeLaws
-pub mod ApplicationLaws
-pub mod GlobalLaws
 pub mod PlannedLaws
 pub mod MemoryLaws
-pub mod PieceLaws
-pub mod PowerLaws
 pub mod DataLaws

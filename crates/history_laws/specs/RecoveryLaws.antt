@@ -16,8 +16,8 @@ use Rattle.piv_rules.specs.Answers.{answer}
 use Rattle.piv_rules.specs.Losses.{can_come, is_unblocking, MayBeSaid}
 use Rattle.piv_rules.specs.Legal.{IsLegal, IsAllowed}
 use Rattle.piv_rules.specs.Turns.{called}
-use Rattle.piv_rules.specs.HistoryLaws.{before_loss}
-use Rattle.history_laws.specs.LoginLaws.{is_miss}
+use Rattle.card_laws.specs.LossLaws.{before_loss}
+use Rattle.login_laws.specs.LoginLaws.{is_miss}
 
 -- one try less of the reference that the command compares
 pub record IsOneTryLess (B : Base) (G : Past) (k : CardCommand) (m : Memory) : Type 0 where

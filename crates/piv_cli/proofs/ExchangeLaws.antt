@@ -1,9 +1,9 @@
 -- What the program knows of a card after an exchange.
-use Rattle.std.proofs.Common.{◌≡◌, ◌≤◌, ◌+◌, ℕ, Bool, true, false, List, [], ◌∷◌, Option, Some, None, IfSome, refl, ap, sym, ◌∙◌, subst}
 use Rattle.std.specs.Prelude.{not, is_some, if◌then◌else◌}
+use Rattle.std.proofs.Common.{◌≡◌, ◌≤◌, ◌+◌, ℕ, Bool, true, false, List, [], ◌∷◌, Option, Some, None, IfSome, refl, ap, sym, ◌∙◌, subst, arith}
 use Rattle.std.proofs.lemmas.List.Sums.{sum_by-cons}
-use Rattle.std.proofs.Common.{arith}
 use mathlib.Core.Bool.{cond}
+use Rattle.hex.specs.Hex.{encode_upper}
 use Rattle.piv_model.specs.declared.store.Store.{Ghosts}
 use Rattle.piv_model.specs.declared.kinds.Interface.{Interface}
 use Rattle.piv_model.specs.declared.history.ActKind.TheVariants as kind
@@ -15,9 +15,10 @@ use Rattle.piv_model.specs.Framing.{reply_bytes}
 use Rattle.piv_model.specs.Stores.{StoreState}
 use Rattle.piv_rules.specs.Acts.{Records, entries}
 use Rattle.piv_rules.specs.Connections.{on, side, epoch, is_epoch_end}
-use Rattle.piv_rules.specs.PlanSteps.{IsToldAfter}
 use Rattle.piv_rules.specs.RandomBlocks.{draws, draws_count, next_block}
-use Rattle.hex.specs.Hex.{encode_upper}
+use Rattle.card_laws.specs.PlanSteps.{IsToldAfter}
+use Rattle.challenge_blocks.specs.declared.blocks.Blocks.{Blocks}
+use Rattle.challenge_blocks.specs.Next.{IsNext}
 use Rattle.card_app.specs.declared.card.Card.{Card}
 use Rattle.card_app.specs.declared.card.Outcome.{Outcome}
 use Rattle.card_app.specs.declared.card.Outcome.TheVariants as outcome
@@ -25,11 +26,9 @@ use Rattle.card_app.specs.After.{IsExchanged, epoch_at, record_left}
 use Rattle.card_app.specs.Outcomes.{entry_by, answer_by, muted, is_mute, LeavesOf}
 use Rattle.card_app.specs.Plans.{DueFollows}
 use Rattle.card_app.specs.Stands.{store_state, state_of}
-use Rattle.challenge_blocks.specs.declared.blocks.Blocks.{Blocks}
-use Rattle.challenge_blocks.specs.Next.{IsNext}
 use Rattle.piv_cli.specs.Lines.{spelled}
-use Rattle.piv_cli.proofs.DashLaws.{loses-none}
 use Rattle.piv_cli.specs.Sessions.{IsAfter, IsSteady, LosesOnce, Replies}
+use Rattle.piv_cli.proofs.DashLaws.{loses-none}
 
 -- whether an outcome drew a block, and the bytes of its reply
 abbrev pub drew_by : Outcome → Bool

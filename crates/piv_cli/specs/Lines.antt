@@ -1,16 +1,15 @@
 -- What `piv apdu` writes: one line for each line of its input that asks something (this project's own).
 use Rattle.std.specs.Prelude.{◌≡◌, ℕ, ◌==◌, ◌||◌, not, Bool, true, List, [], ◌∷◌, ◌++◌, filter, Result, Ok, Err}
-use Rattle.std.specs.List.{slice_split}
+use Rattle.std.specs.List.{slice_split, list_any}
 use Rattle.std.specs.Str.Lines.{strip_carriage_return}
 use Rattle.hex.specs.Hex.{decode_of, encode_upper}
 use Rattle.hex.specs.declared.error.FromHexError.{FromHexError}
 use Rattle.piv_model.specs.declared.kinds.Interface.TheVariants.{Contact}
-use Rattle.std.specs.List.{list_any}
 use Rattle.piv_model.specs.Framing.{reply_bytes}
 use Rattle.piv_model.specs.Base.{Base}
 use Rattle.piv_rules.specs.Acts.{CardAnswer, Replied, Exchange, CardRecord, Records}
 use Rattle.piv_rules.specs.Turns.{IsTurned}
-use Rattle.piv_rules.specs.StandsLaws.{opened_as}
+use Rattle.card_laws.specs.StandsLaws.{opened_as}
 
 -- a byte that counts: no space and no tab
 abbrev pub counts : ℕ → Bool

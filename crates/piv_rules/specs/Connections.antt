@@ -77,6 +77,11 @@ is_exchange_on c (Rest d) = d == c
 is_exchange_on c (Bad d word) = d == c
 is_exchange_on c _ = false
 
+-- a command on c
+abbrev pub is_call_on : ℕ → CardEntry → Bool
+is_call_on c (Call d k word block) = d == c
+is_call_on c _ = false
+
 -- what the exchanges of c have led to, one entry later: a break of c begins anew, an exchange of c makes a step, and all
 -- else leaves what was before
 abbrev pub by_exchange : {A : Type 0} → ℕ → A → (A → A) → Past → CardEntry → A → A

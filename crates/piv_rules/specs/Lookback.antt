@@ -1,5 +1,5 @@
 -- Looking back through a history for the last entry that matters. A history has its newest entry first.
-use Rattle.std.specs.Prelude.{ℕ, ◌+◌, Bool, true, false, [], ◌∷◌, Option, unwrap_or, if◌then◌else◌}
+use Rattle.std.specs.Prelude.{ℕ, ◌+◌, Bool, true, false, [], ◌∷◌, Option, unwrap_or, if◌then◌else◌, not, ◌&&◌, ◌++◌}
 use Rattle.piv_model.specs.Entries.{CardEntry, Past}
 
 -- what the last entry says of which `f` says something, else `start`; `f` also has the entries before it
@@ -19,3 +19,8 @@ count_after anew counts (e ∷ H) =
 abbrev pub some_entry : (Past → CardEntry → Bool) → Past → Bool
 some_entry is [] = false
 some_entry is (e ∷ H) = if is H e then true else some_entry is H
+
+-- none of the entries L, which follow H, is of this kind
+abbrev pub none_since : (Past → CardEntry → Bool) → Past → Past → Bool
+none_since is [] H = true
+none_since is (e ∷ L) H = not (is (L ++ H) e) && none_since is L H

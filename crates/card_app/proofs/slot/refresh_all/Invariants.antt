@@ -1,5 +1,5 @@
 use Rattle.std.proofs.Common.{◌≡◌, ℕ, ◌<◌, ◌≤◌, get_or}
-use Rattle.piv_rules.specs.ConnectionSteps.{after_cut}
+use Rattle.card_laws.specs.ConnectionSteps.{after_cut}
 use Rattle.card_app.specs.declared.slot.Slot.{Slot}
 use Rattle.card_app.specs.Kept.{BecameBy}
 use Rattle.card_app.proofs.slot.refresh_all.Given as goal

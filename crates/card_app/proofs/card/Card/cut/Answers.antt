@@ -1,8 +1,7 @@
-use Rattle.std.proofs.Common.{refl}
+use Rattle.std.proofs.Common.{refl, arith}
+use Rattle.card_laws.specs.ConnectionSteps.{after_cut}
 use Rattle.card_app.proofs.CardLaws.{card-cut}
-use Rattle.std.proofs.Common.{arith}
 use Rattle.card_app.proofs.HeldLaws.{taken-items, held-items, numbers-items}
-use Rattle.piv_rules.specs.ConnectionSteps.{after_cut}
 use Rattle.card_app.proofs.card.Card.cut.Goals as goal
 
 pub returns-clause-stands : goal.returns-clause-stands

@@ -1,14 +1,13 @@
-use Rattle.std.proofs.Common.{◌≡◌, ◌∙◌, refl, sym, ap, true, false, get_or-set_same}
 use Rattle.std.specs.Vec.{with_item}
-use Rattle.piv_chaining.specs.Chains.{Chain}
 use Rattle.std.specs.Prelude.{Some}
+use Rattle.std.proofs.Common.{◌≡◌, ◌∙◌, refl, sym, ap, true, false, get_or-set_same}
+use Rattle.card_laws.specs.ConnectionSteps.{after_cut}
+use Rattle.piv_chaining.specs.Chains.{Chain, held_by}
 use Rattle.card_app.specs.declared.exchanging.Exchanged.TheVariants.{Lost}
 use Rattle.card_app.specs.declared.slot.Slot.{Slot}
 use Rattle.card_app.specs.Kept.{is_at, slot_attached}
 use Rattle.card_app.specs.Stands.{attached_to}
 use Rattle.card_app.proofs.TurnLaws.{card-kept, card-lost, card-due, card-framed, left-on}
-use Rattle.piv_rules.specs.ConnectionSteps.{after_cut}
-use Rattle.piv_chaining.specs.Chains.{held_by}
 use Rattle.card_app.proofs.HeldLaws.{taken-items, taken-same, taken-lost, held-items, numbers-items, held-kept, held-lost, numbers-lost, numbers-set}
 use Rattle.card_app.proofs.card.Card.turn.Goals as goal
 

@@ -1,5 +1,5 @@
-use Rattle.std.proofs.Common.{◌≡◌, ◌+◌, ◌∷◌, ℕ, true, false, rules, refl, sym, ap, subst, ◌∙◌, arith}
 use Rattle.std.specs.List.{list_any}
+use Rattle.std.proofs.Common.{◌≡◌, ◌+◌, ◌∷◌, ℕ, true, false, rules, refl, sym, ap, subst, ◌∙◌, arith}
 use Rattle.piv_model.specs.declared.history.Refusal.TheVariants as why
 use Rattle.piv_model.specs.Stores.{StoreState}
 use Rattle.piv_model.specs.Entries.{Opened}
@@ -8,8 +8,8 @@ use Rattle.piv_rules.specs.Connections.{epoch}
 use Rattle.piv_rules.specs.Legal.{opened_count, is_locked}
 use Rattle.piv_rules.specs.RandomBlocks.{draws_count}
 use Rattle.piv_rules.proofs.Legality.{IsLegal-runs}
-use Rattle.piv_rules.proofs.Numbers.{unused-above}
-use Rattle.piv_rules.specs.StandsLaws.{noted_as}
+use Rattle.card_laws.specs.StandsLaws.{noted_as}
+use Rattle.card_laws.proofs.Numbers.{unused-above}
 use Rattle.card_app.specs.Stands.{CardStandsFor}
 use Rattle.card_cell.specs.Cells.{store_in}
 use Rattle.card_cell.specs.Kept.{bars}

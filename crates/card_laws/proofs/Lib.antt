@@ -1,0 +1,9 @@
+pub mod Channels
+pub mod Apart
+pub mod LossLaws
+pub mod Numbers
+pub mod ConnectionLaws
+pub mod StandsLaws
+pub mod PlanLaws
+pub mod FrameTies
+pub mod Counting

@@ -1,0 +1,9 @@
+pub mod StandsFor
+pub mod ConnectionSteps
+pub mod PlanSteps
+pub mod FrameLaws
+pub mod RecordLaws
+pub mod StandsLaws
+pub mod NumberLaws
+pub mod LossLaws
+pub mod ApartLaws

@@ -1,0 +1,6 @@
+pub mod Limits
+pub mod Lasting
+pub mod Uses
+pub mod WordLaws
+pub mod ListedWords
+pub mod NoData

@@ -1,0 +1,4 @@
+pub mod AnswerWords
+pub mod SpendLaws
+pub mod LastingLaws
+pub mod UseLaws

@@ -1,0 +1,4 @@
+pub mod OpenLaws
+pub mod ChallengeLaws
+pub mod PieceLaws
+pub mod PowerLaws

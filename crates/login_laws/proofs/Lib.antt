@@ -1,0 +1,9 @@
+pub mod Bools
+pub mod Lasting
+pub mod Logins
+pub mod Asking
+pub mod Writers
+pub mod Tries
+pub mod Selections
+pub mod Globals
+pub mod Presented
