@@ -7,6 +7,7 @@ ghost use Rattle.piv_rules.specs.Lent.{ask_of, counter_of, AreFew, IsSeen};
 use crate::asked::Asked;
 use crate::lookback::Pending;
 use crate::table::{Conditions, word_of};
+use access_rules::{Status, Verdict, decide};
 use piv_model::limits::{BLOCK, LONGEST_OBJECT};
 use piv_model::{Interface, ObjectId, RefId, Rule};
 
@@ -40,17 +41,21 @@ pub struct Seen<'a> {
 }
 
 // An access rule holds.
-fn permits(seen: &Seen<'_>, rule: Rule) -> bool
+fn is_permitted(seen: &Seen<'_>, rule: Rule) -> bool
     ensures { (s : Situation) → IsSeen seen.now s → result ≡ holds s rule }
 {
-    let contact = seen.interface == Interface::Contact;
-    match rule {
-        Rule::Always => true,
-        Rule::Pin => contact && (seen.pin || (seen.global && seen.global_counts)),
-        Rule::Never => false,
-        Rule::Admin => contact && seen.admin,
-        Rule::ContactUse => contact,
-        Rule::Response => false,
+    if rule == Rule::Response {
+        return false;
+    }
+    let status = Status {
+        piv: seen.piv,
+        pin: seen.pin,
+        global: seen.global,
+        admin: seen.admin,
+    };
+    match decide(rule, seen.interface, &status, seen.global_counts) {
+        Verdict::Permit => true,
+        Verdict::Deny { .. } => false,
     }
 }
 
@@ -131,7 +136,7 @@ pub fn conditions_of(seen: &Seen<'_>, asked: &Asked<'_>, rule: Rule, wrong: bool
         → wrong ≡ is_wrong s.memory.admin s.channel.pending (ask_of asked.now)
         → result ≡ conditions s (ask_of asked.now) }
 {
-    let conditions = common(seen.piv, permits(seen, rule), wrong);
+    let conditions = common(seen.piv, is_permitted(seen, rule), wrong);
     match asked {
         Asked::Refused(word) => Conditions {
             refusal: Some(*word),
