@@ -3,6 +3,7 @@
 
 mod asked;
 mod counters;
+mod entitled;
 mod laws;
 mod lookback;
 mod seen;
@@ -10,6 +11,7 @@ mod table;
 
 pub use asked::{Asked, Purpose};
 pub use counters::{running_at, tries_left};
+pub use entitled::is_entitled;
 pub use laws::{one_entry_more, runs_are_legal};
 pub use lookback::{Asks, Login, Pending, is_break, is_in_force, pending_on, side_of};
 pub use seen::{Counter, Seen, answer_word, conditions_of};
