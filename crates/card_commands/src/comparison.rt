@@ -23,7 +23,7 @@ use piv_model::status_words::{
     AUTHENTICATION_METHOD_BLOCKED, SECURITY_STATUS_NOT_SATISFIED, SUCCESS, verification_failed,
 };
 use piv_model::{Interface, Lost, RefId, Rule, Store};
-use piv_rules::Purpose;
+use piv_rules::{Purpose, is_mismatched};
 
 // What a match does.
 fn fill<S: Store>(store: &mut S, r: RefId, purpose: Purpose) -> Result<(), Lost>
@@ -69,12 +69,6 @@ fn carry<S: Store>(
         Ok(()) => Ok(SUCCESS),
         Err(Lost) => Err(Broken::Filling { tries }),
     }
-}
-
-fn is_mismatched(sw: u16) -> bool
-    ensures { result ≡ is_mismatched sw }
-{
-    (0x63C0..=0x63CF).contains(&sw)
 }
 
 // What a comparison makes of the login by its reference.

@@ -27,8 +27,8 @@ pub fn running_at<'a>(entries: &[Entry<'a>]) -> Option<(u32, Command<'a>)>
     }
 }
 
-// How far a command came that is answered this word.
-fn took_at(word: u16) -> Took
+/// How far a command came that is answered this word.
+pub fn took_by(word: u16) -> Took
     ensures { result ≡ took_by word }
 {
     if word == SUCCESS {
@@ -46,7 +46,7 @@ fn did_by<'a>(entry: &Entry<'a>, before: &[Entry<'a>]) -> Option<(Command<'a>, T
         ≡ did (past_of before.now) (entry_of entry.now) }
 {
     match entry {
-        Entry::Call { command, sw, .. } => Some((*command, took_at(*sw))),
+        Entry::Call { command, sw, .. } => Some((*command, took_by(*sw))),
         Entry::Up { took } => match running_at(before) {
             Some((_, command)) => Some((command, *took)),
             None => None,

@@ -69,8 +69,8 @@ pub fn is_break(entry: &Entry<'_>, before: &[Entry<'_>], c: u32) -> bool
     }
 }
 
-// The word tells that a comparison failed.
-pub(crate) fn is_mismatched(sw: u16) -> bool
+/// The word tells that a comparison failed.
+pub fn is_mismatched(sw: u16) -> bool
     ensures { result ≡ is_mismatched sw }
 {
     verification_failed(0) <= sw && sw <= verification_failed(15)
