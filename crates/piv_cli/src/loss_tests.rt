@@ -31,7 +31,7 @@ fn add<N: Nvm + Drop>(devices: &mut Vec<N>, device: N) -> Result<(), Fail>
 }
 
 // Eight blank devices, of which device 0 has this plan of losses and the others have none.
-fn fused_devices(alloc: Global, plan: Vec<Loss>) -> Result<Vec<Fused<MemNvm>>, Fail>
+pub fn fused_devices(alloc: Global, plan: Vec<Loss>) -> Result<Vec<Fused<MemNvm>>, Fail>
     requires { RisesFrom 0 (write_numbers plan.items) }
     ensures { IfOk result (λ devices. AreReady ⟦<Fused<MemNvm> as Nvm>⟧.state devices.items) }
 {

@@ -18,6 +18,8 @@ mod program;
 mod scene;
 #[cfg(test)]
 mod scene_tests;
+#[cfg(test)]
+mod session_tests;
 mod status;
 #[cfg(test)]
 mod tests;
