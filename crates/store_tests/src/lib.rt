@@ -1,7 +1,9 @@
 //! Tests that run over every store of a card's memory: the one in memory, and those on a device, in both layouts.
 #![tactic(auto)]
 
+#[cfg(test)]
 mod bench;
+#[cfg(test)]
 mod cards;
 #[cfg(test)]
 mod equal;
@@ -9,6 +11,7 @@ mod equal;
 mod images;
 #[cfg(test)]
 mod layouts;
+#[cfg(test)]
 mod left;
 #[cfg(test)]
 mod looking;
@@ -22,5 +25,7 @@ mod migrating;
 mod moving;
 #[cfg(test)]
 mod random;
+#[cfg(test)]
 mod rows;
+#[cfg(test)]
 mod untold;
