@@ -28,6 +28,21 @@ pub(crate) enum Exchanged {
     Mute,
 }
 
+impl Exchanged {
+    // An answer where no command is noted.
+    fn without_command(body: ReplyBytes, sw: u16) -> Exchanged
+        ensures { result ≡ Exchanged.Replied body sw false None Took.Nothing }
+    {
+        Exchanged::Replied {
+            body,
+            sw,
+            drew: false,
+            compared: None,
+            took: Took::Nothing,
+        }
+    }
+}
+
 // The block that a call bears.
 fn borne(drew: bool, block: &[u8; 16]) -> Option<[u8; 16]>
     ensures { result ≡ (if drew then Some block.now else None) }
@@ -68,13 +83,7 @@ pub(crate) fn exchange<S: Store>(
     match card.exchange(c, bytes, block) {
         Outcome::Part => {
             history.push(Entry::Part { c });
-            Exchanged::Replied {
-                body: ReplyBytes::of(&[]),
-                sw: SUCCESS,
-                drew: false,
-                compared: None,
-                took: Took::Nothing,
-            }
+            Exchanged::without_command(ReplyBytes::of(&[]), SUCCESS)
         }
         Outcome::Call {
             command,
@@ -101,23 +110,11 @@ pub(crate) fn exchange<S: Store>(
         }
         Outcome::Rest { body, last } => {
             history.push(Entry::Rest { c });
-            Exchanged::Replied {
-                body: ReplyBytes::of(body),
-                sw: last,
-                drew: false,
-                compared: None,
-                took: Took::Nothing,
-            }
+            Exchanged::without_command(ReplyBytes::of(body), last)
         }
         Outcome::Bad(sw) => {
             history.push(Entry::Bad { c, sw });
-            Exchanged::Replied {
-                body: ReplyBytes::of(&[]),
-                sw,
-                drew: false,
-                compared: None,
-                took: Took::Nothing,
-            }
+            Exchanged::without_command(ReplyBytes::of(&[]), sw)
         }
         Outcome::Mute => {
             let running = card.running();
