@@ -9,3 +9,4 @@ pub mod CountLaws
 pub mod TurnLaws
 pub mod ExchangeLaws
 pub mod HoldLaws
+pub mod Lasting

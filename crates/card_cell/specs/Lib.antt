@@ -7,3 +7,4 @@ pub mod Losses
 pub mod Epochs
 pub mod Cells
 pub mod Holds
+pub mod Acknowledged

@@ -6,11 +6,12 @@ ghost use Rattle.piv_model.specs.Memory.{has, reference};
 ghost use Rattle.piv_model.specs.Written.{HasRoom};
 ghost use Rattle.piv_rules.specs.Acts.{Records, entries};
 ghost use Rattle.piv_rules.specs.Legal.{IsLegal};
-ghost use Rattle.piv_rules.specs.Memories.{comparisons, spends_since};
+ghost use Rattle.piv_rules.specs.Memories.{comparisons, mem, spends_since};
 ghost use Rattle.piv_rules.specs.Plans.{IsPlanOf};
 ghost use Rattle.card_acts.specs.Acts.{act_of, answer_of, is_answer_to, IsShort};
 ghost use Rattle.card_app.specs.Left.{Left};
 ghost use Rattle.card_app.specs.Stands.{held_card, is_attached, attached_count};
+ghost use Rattle.card_cell.specs.Acknowledged.{HasAcknowledged};
 ghost use Rattle.card_cell.specs.declared.base.CellBase.{CellBase};
 ghost use Rattle.card_cell.specs.Epochs.{epoch_in};
 ghost use Rattle.card_cell.specs.Kept.{has_number};
@@ -117,11 +118,16 @@ impl<S: Store> CardCell<S> {
         self.make(act)
     }
 
-    /// The history: its entries are those of the records, and it is legal.
+    /// The history: its entries are those of the records, and it is legal. What a command of it was granted is in its memory.
+    #[tactic(auto, using(crate::proofs::Lasting::acknowledged_laws))]
     pub fn history(&self) -> &History
         ensures same { result.now.past ≡ history_of self.now }
         ensures past { (B : Base) (R : Records) → CellStandsFor self.now B R → result.now.past ≡ entries R }
         ensures legal { (B : Base) (R : Records) → CellStandsFor self.now B R → IsLegal B result.now.past }
+
+        // What was acknowledged lasts, over any loss of power, until an accepted command changes it.
+        ensures lasts { (B : Base) (R : Records) → CellStandsFor self.now B R
+            → HasAcknowledged B result.now.past (mem B result.now.past) }
     {
         &self.history
     }
