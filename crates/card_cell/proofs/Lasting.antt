@@ -5,7 +5,7 @@ use Rattle.piv_model.specs.Entries.{Past}
 use Rattle.piv_model.specs.Memory.{reference, stored}
 use Rattle.piv_model.specs.Base.{Base}
 use Rattle.piv_rules.specs.Memories.{mem}
-use Rattle.piv_rules.proofs.Lasting.{ObjectsLast-law, SecretsLast-law, UnblockedPinsLast-law}
+use Rattle.command_laws.proofs.Lasting.{ObjectsLast-law, SecretsLast-law, UnblockedPinsLast-law}
 use Rattle.card_cell.specs.Acknowledged.{HasAcknowledged}
 
 pub acknowledged-lasts : (B : Base) (H : Past) → HasAcknowledged B H (mem B H)

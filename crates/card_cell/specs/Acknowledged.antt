@@ -8,7 +8,8 @@ use Rattle.piv_model.specs.Memory.{Memory, has, reference, stored}
 use Rattle.piv_model.specs.Base.{Base, profile}
 use Rattle.piv_rules.specs.StatusWords.{is_granted}
 use Rattle.piv_rules.specs.Asks.{Put, Compare, Change, Unblock, ask}
-use Rattle.piv_rules.specs.HistoryLaws.{none_since, gives_object, gives_secret}
+use Rattle.piv_rules.specs.Lookback.{none_since}
+use Rattle.command_laws.specs.LastingLaws.{gives_object, gives_secret}
 
 -- The memory m after the history H has what a command was granted, whatever entries L came later, losses of power too,
 -- unless an accepted command among them gave another value.

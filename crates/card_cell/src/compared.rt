@@ -3,10 +3,9 @@ ghost use Rattle.std.specs.Prelude.{◌≡◌, IfSome};
 ghost use Rattle.piv_model.specs.Commands.{command_of};
 ghost use Rattle.piv_model.specs.Base.{Profile};
 ghost use Rattle.piv_rules.specs.Asks.{ask, verified_reference, changed_reference, verify_ask, verify_form, change_ask, change_form, unblock_ask};
-ghost use Rattle.piv_rules.specs.Effects.{took_by};
 ghost use Rattle.card_cell.specs.Counts.{comparison_of};
 
-use piv_model::{Command, RefId, Took};
+use piv_model::{Command, RefId};
 use piv_references::{read_pair, read_pin, read_unblock};
 
 const VERIFY: u8 = 0x20;
@@ -128,16 +127,5 @@ pub(crate) fn comparison_in(command: Command<'_>, has_global: bool) -> Option<Co
         CHANGE_REFERENCE_DATA => changed(command, has_global),
         RESET_RETRY_COUNTER => unblocked(command),
         _ => None,
-    }
-}
-
-// How far a command came that is answered this word.
-pub(crate) fn came_by(word: u16) -> Took
-    ensures { result ≡ took_by word }
-{
-    match word {
-        0x9000 => Took::Done,
-        0x63C0..=0x63CF => Took::Spent,
-        _ => Took::Nothing,
     }
 }

@@ -10,10 +10,11 @@ ghost use Rattle.card_app.specs.After.{epoch_at};
 ghost use Rattle.card_cell.specs.Exchanged.{latest, answer_made, IsNoted, IsEntryOf};
 ghost use Rattle.card_cell.specs.Losses.{is_loss, IsCounted};
 
-use crate::compared::{Comparison, came_by, comparison_in};
+use crate::compared::{Comparison, comparison_in};
 use card_app::{Card, Outcome};
 use piv_model::status_words::SUCCESS;
 use piv_model::{Entry, History, ReplyBytes, Store, Took};
+use piv_rules::took_by;
 
 // What an exchange came to, whether it drew the block, and the comparison of its command with how far that came.
 #[derive(Drop)]
@@ -105,7 +106,7 @@ pub(crate) fn exchange<S: Store>(
                 sw: last,
                 drew,
                 compared,
-                took: came_by(sw),
+                took: took_by(sw),
             }
         }
         Outcome::Rest { body, last } => {

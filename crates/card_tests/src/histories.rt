@@ -1,8 +1,8 @@
 // What a history says of a connection and of a counter, as the whole card reads its commands.
 use card_commands::Traits;
 use piv_model::application_names::{IDLE, TRUNCATED};
-use piv_model::{Command, Entry, Interface, RefId, Took};
-use piv_rules::{Login, Pending, is_in_force, pending_on, tries_left};
+use piv_model::{Command, Entry, Interface, RefId, Rule, Took};
+use piv_rules::{Login, Pending, is_entitled, is_in_force, pending_on, tries_left};
 
 const CARD: Traits = Traits {
     has_global: true,
@@ -19,6 +19,12 @@ static PUK_AND_PIN: [u8; 16] = [
 static ASK_CHALLENGE: [u8; 4] = [0x7C, 0x02, 0x81, 0x00];
 
 static ASK_WITNESS: [u8; 4] = [0x7C, 0x02, 0x80, 0x00];
+
+// The template with a response of 16 bytes.
+static RESPONSE: [u8; 20] = [
+    0x7C, 0x12, 0x82, 0x10, 0xA5, 0xA5, 0xA5, 0xA5, 0xA5, 0xA5, 0xA5, 0xA5, 0xA5, 0xA5, 0xA5, 0xA5,
+    0xA5, 0xA5, 0xA5, 0xA5,
+];
 
 const BLOCK: [u8; 16] = [0xA5; 16];
 
@@ -144,6 +150,81 @@ fn tries_are_spent_by_mismatches_and_losses_and_filled_by_matches(rt: HostRuntim
         assert_eq!(rt; tries_left(&CARD, entries, RefId::Puk, 3, 3), puk);
         assert_eq!(rt; tries_left(&CARD, entries, RefId::GlobalPin, 3, 3), 3);
     }
+}
+
+// Connection 1 is entitled by a PIN, where the Global PIN counts and where it doesn't.
+fn pin_opens(entries: &[Entry<'_>], counting: bool, otherwise: bool) -> bool {
+    is_entitled(&CARD, entries, 1, Rule::Pin, true) == counting
+        && is_entitled(&CARD, entries, 1, Rule::Pin, false) == otherwise
+}
+
+// Connection 1 is entitled by the administration key, whatever the Global PIN does.
+fn admin_opens(entries: &[Entry<'_>], entitled: bool) -> bool {
+    is_entitled(&CARD, entries, 1, Rule::Admin, true) == entitled
+        && is_entitled(&CARD, entries, 1, Rule::Admin, false) == entitled
+}
+
+fn opened_without_contact(c: u32) -> Entry<'static> {
+    Entry::Opened {
+        c,
+        interface: Interface::Contactless,
+        shared: true,
+    }
+}
+
+#[test]
+fn a_pin_entitles_its_own_connection_on_contact(rt: HostRuntime) {
+    let (select, idle) = (selected(&TRUNCATED), selected(&IDLE));
+    let (pin, global) = (verified(0x80, 0x9000), verified(0x00, 0x9000));
+    let gate = opened_without_contact(1);
+    assert!(rt; pin_opens(&[select, opened(1)], false, false));
+    assert!(rt; pin_opens(&[pin, select, opened(1)], true, true));
+    assert!(rt; pin_opens(&[global, select, opened(1)], true, false));
+    assert!(rt; pin_opens(&[pin, select, gate], false, false));
+    assert!(rt; pin_opens(&[global, select, gate], false, false));
+    assert!(rt; pin_opens(&[idle, pin, select, opened(1)], false, false));
+    assert!(rt; pin_opens(&[idle, global, select, opened(1)], true, false));
+    assert!(rt;
+        pin_opens(
+            &[reset(Interface::Contact), pin, select, opened(1)],
+            false,
+            false
+        )
+    );
+    assert!(rt;
+        pin_opens(
+            &[reset(Interface::Contactless), pin, select, opened(1)],
+            true,
+            true
+        )
+    );
+    assert!(rt;
+        !is_entitled(
+            &CARD,
+            &[opened(2), pin, select, opened(1)],
+            2,
+            Rule::Pin,
+            true
+        )
+    );
+}
+
+#[test]
+fn a_response_entitles_to_administer_on_contact(rt: HostRuntime) {
+    let (select, idle) = (selected(&TRUNCATED), selected(&IDLE));
+    let challenge = requested(&ASK_CHALLENGE);
+    let answered = called(command(0x87, 0x08, 0x9B, &RESPONSE), 0x9000);
+    let pin = verified(0x80, 0x9000);
+    assert!(rt; admin_opens(&[pin, select, opened(1)], false));
+    assert!(rt; admin_opens(&[answered, challenge, select, opened(1)], true));
+    assert!(rt; admin_opens(&[challenge, answered, challenge, select, opened(1)], false));
+    assert!(rt; admin_opens(&[idle, answered, challenge, select, opened(1)], false));
+    assert!(rt;
+        admin_opens(
+            &[answered, challenge, select, opened_without_contact(1)],
+            false
+        )
+    );
 }
 
 // What is pending, in a word.
