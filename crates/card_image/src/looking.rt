@@ -2,6 +2,7 @@
 ghost use Rattle.std.specs.Prelude.{◌≡◌, ◌↔◌, ◌+◌, ◌<◌, ◌≤◌, ◌&&◌, nat_le, length, true, is_some, IsTrue, IfSome};
 ghost use Rattle.nvm_device.specs.Bytes.{bytes_at};
 ghost use Rattle.piv_model.specs.Forms.{is_pin, is_policy, is_discovery};
+ghost use Rattle.piv_model.specs.Objects.{discovery_place};
 ghost use Rattle.piv_model.specs.Sound.{is_algorithm, may_stand};
 ghost use Rattle.card_image.specs.Header.{header_of};
 ghost use Rattle.card_image.specs.Images.{IsImage, IfKeeps, object_in};
@@ -14,6 +15,7 @@ use crate::objects::Objects;
 use crate::room::{blocks_of_all, read_budget};
 use nvm_device::Nvm;
 use piv_model::limits::MOST_BLOCKS;
+use piv_model::{ObjectId, discovery_value};
 use piv_references::read_pin;
 
 fn is_counter(limit: u8, tries: u8) -> bool
@@ -72,10 +74,6 @@ pub(crate) fn is_blank<N: Nvm>(nvm: &N) -> bool
     out == [0; 4]
 }
 
-const DISCOVERY_HEAD: [u8; 16] = [
-    0x4F, 0x0B, 0xA0, 0x00, 0x00, 0x03, 0x08, 0x00, 0x00, 0x10, 0x00, 0x01, 0x00, 0x5F, 0x2F, 0x02,
-];
-
 fn is_policy(has_global: bool, policy: &[u8]) -> bool
     ensures { result ≡ is_policy has_global policy.now }
 {
@@ -87,16 +85,18 @@ fn is_policy(has_global: bool, policy: &[u8]) -> bool
 fn is_discovery(has_global: bool, value: &[u8; 18]) -> bool
     ensures { result ≡ is_discovery has_global value.now }
 {
-    &value[..16] == DISCOVERY_HEAD.as_slice() && is_policy(has_global, &value[16..])
+    let policy = [value[16], value[17]];
+    *value == discovery_value(policy) && is_policy(has_global, &policy)
 }
 
-// Whether the object of place 10 is absent or has the form of Discovery.
+// Whether the Discovery Object is absent or has its form.
 fn has_discovery<N: Nvm, O: Objects>(nvm: &N, has_global: bool) -> bool
     requires on { (N.state nvm.now).power.on ≡ true }
     requires size { 1114112 ≤ (N.state nvm.now).size }
-    ensures { IfKeeps O.form (N.state nvm.now) (λ row. result ≡ may_stand has_global 10 (object_in O.form row 10)) }
+    ensures { IfKeeps O.form (N.state nvm.now) (λ row. result ≡ may_stand has_global discovery_place (object_in O.form row discovery_place)) }
 {
-    let n = O::length(nvm, 10);
+    let place = ObjectId::discovery().place() as usize;
+    let n = O::length(nvm, place);
     if n == 0 {
         return true;
     }
@@ -104,7 +104,7 @@ fn has_discovery<N: Nvm, O: Objects>(nvm: &N, has_global: bool) -> bool
         return false;
     }
     let mut value = [0; 18];
-    O::fill(nvm, 10, &mut value);
+    O::fill(nvm, place, &mut value);
     is_discovery(has_global, &value)
 }
 

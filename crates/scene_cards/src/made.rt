@@ -110,10 +110,7 @@ fn text_of(text: &Option<String>) -> Option<&str>
 fn filled(alloc: Global, size: u64, fill: u8) -> Result<Vec<u8>, NoMemory>
     ensures { IfOk result (λ v. v.items ≡ replicate size fill) }
 {
-    match vec![in alloc; fill; size as usize] {
-        Ok(bytes) => Ok(bytes),
-        Err(_) => Err(NoMemory),
-    }
+    Ok(vec![in alloc; fill; size as usize]?)
 }
 
 fn push_object(
@@ -137,10 +134,7 @@ fn make_objects(alloc: Global, objects: &[RawObject]) -> Result<StartObjects, No
 {
     let mut made = StartObjects::new(alloc);
     for object in objects {
-        match push_object(alloc, &mut made, object) {
-            Ok(()) => (),
-            Err(fault) => return Err(fault),
-        }
+        push_object(alloc, &mut made, object)?;
     }
     Ok(made)
 }
@@ -155,10 +149,7 @@ pub fn copy_plan(alloc: Global, losses: &[Loss]) -> Result<Vec<Loss>, NoMemory>
             write: loss.write,
             how: loss.how.copy(),
         };
-        match plan.push(next) {
-            Ok(()) => (),
-            Err(_) => return Err(NoMemory),
-        }
+        plan.push(next)?;
     }
     Ok(plan)
 }
@@ -205,10 +196,7 @@ fn make_start(alloc: Global, parts: &RawParts, objects: &[RawObject]) -> Result<
 fn make_text(alloc: Global, text: &str) -> Result<String, NoMemory>
     ensures { IfOk result (λ t. string_bytes t ≡ text.now) }
 {
-    match String::from_str(alloc, text) {
-        Ok(text) => Ok(text),
-        Err(_) => Err(NoMemory),
-    }
+    Ok(String::from_str(alloc, text)?)
 }
 
 fn make_text_if_any(alloc: Global, text: Option<&str>) -> Result<Option<String>, NoMemory>
@@ -250,10 +238,7 @@ pub fn make_cards(alloc: Global, cards: &[RawCard<'_>]) -> Result<Vec<SceneCard>
     let mut made: Vec<SceneCard> = Vec::new(alloc);
     for card in cards {
         let next = make_card(alloc, card)?;
-        match made.push(next) {
-            Ok(()) => (),
-            Err(_) => return Err(NoMemory),
-        }
+        made.push(next)?;
     }
     Ok(made)
 }

@@ -19,7 +19,7 @@ make_card-requires-clause-budget c = (card-within c.args.cards.now c.loop-card.c
 
 pub loop-card-preserved : goal.loop-card-preserved
 loop-card-preserved c = record {
-  made = c.in-Ok.ensures.items
+  made = c.in_ok-push.ensures.items
       ∙ ap (λ (l : List CardValue). l ++ c.in_ok-next.next ∷ []) c.loop-card.invariant.made
       ∙ ap (λ (v : CardValue). map card_value (map card_view (take c.loop-card.card-index c.args.cards.now)) ++ v ∷ []) c.in_ok-next.ensures
       ∙ sym (more-cards c.args.cards.now c.loop-card.card-index c.card-item.result c.loop-card-test.true c.card-item.is);
