@@ -85,8 +85,8 @@ fn is_policy(has_global: bool, policy: &[u8]) -> bool
 fn is_discovery(has_global: bool, value: &[u8; 18]) -> bool
     ensures { result ≡ is_discovery has_global value.now }
 {
-    let policy = [value[16], value[17]];
-    *value == discovery_value(policy) && is_policy(has_global, &policy)
+    let form = discovery_value([0, 0]);
+    value[..16] == form[..16] && is_policy(has_global, &value[16..])
 }
 
 // Whether the Discovery Object is absent or has its form.
