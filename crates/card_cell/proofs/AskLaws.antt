@@ -1,6 +1,6 @@
 -- Only three instructions ask for a comparison.
-use Rattle.std.proofs.Common.{◌≡◌, ℕ, Bool, true, false, List, Option, Some, None, refl, sym}
 use Rattle.std.specs.Prelude.{if◌then◌else◌, ◌==◌, not, option_and_then}
+use Rattle.std.proofs.Common.{◌≡◌, ℕ, Bool, true, false, List, Option, Some, None, refl, sym}
 use Rattle.ber_tlv.specs.Elements.{Element, elements_of}
 use Rattle.piv_model.specs.declared.kinds.Application.{Application}
 use Rattle.piv_model.specs.declared.kinds.KeyId.{KeyId}

@@ -1,6 +1,6 @@
 -- What a cell stands for after an exchange that reached the card.
-use Rattle.std.proofs.Common.{◌≡◌, ◌+◌, ℕ, Bool, true, false, ◌∷◌, Option, Some, None, refl, ap, sym, ◌∙◌, subst, arith}
 use Rattle.std.specs.Prelude.{not, find, option_map, is_some, if◌then◌else◌}
+use Rattle.std.proofs.Common.{◌≡◌, ◌+◌, ℕ, Bool, true, false, ◌∷◌, Option, Some, None, refl, ap, sym, ◌∙◌, subst, arith}
 use Rattle.piv_model.specs.declared.store.Store.{Ghosts}
 use Rattle.piv_model.specs.declared.kinds.Interface.{Interface}
 use Rattle.piv_model.specs.declared.kinds.RefId.{RefId}
@@ -12,8 +12,8 @@ use Rattle.piv_rules.specs.Acts.{CardAct, CardAnswer, Records, entries}
 use Rattle.piv_rules.specs.Connections.{is_open, side, is_exclusive, epoch, is_epoch_end}
 use Rattle.piv_rules.specs.Legal.{is_opening, IsLegal}
 use Rattle.piv_rules.specs.Memories.{did, is_call}
-use Rattle.piv_rules.proofs.Legality.{IsLegal-runs}
 use Rattle.piv_rules.specs.RandomBlocks.{draws, draws_count}
+use Rattle.piv_rules.proofs.Legality.{IsLegal-runs}
 use Rattle.challenge_blocks.specs.Next.{IsNext}
 use Rattle.card_app.specs.Stands.{CardStandsFor}
 use Rattle.card_cell.specs.declared.compared.Comparison.{Comparison}

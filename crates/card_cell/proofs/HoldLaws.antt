@@ -1,7 +1,7 @@
 -- What a cell is to its base: at its beginning, and after one turn.
-use Rattle.std.proofs.Common.{◌≡◌, ◌<◌, ◌+◌, ◌-◌, ℕ, zero, suc, Bool, true, false, List, [], ◌∷◌, Option, Some, None, IfSome, refl, ap, sym, ◌∙◌, subst, arith, length}
 use Rattle.std.specs.Prelude.{is_some, nat_lt, filter, map, slice_index, IsSome, if◌then◌else◌}
 use Rattle.std.specs.List.Sorted.{IsStrictlyIncreasing}
+use Rattle.std.proofs.Common.{◌≡◌, ◌<◌, ◌+◌, ◌-◌, ℕ, zero, suc, Bool, true, false, List, [], ◌∷◌, Option, Some, None, IfSome, refl, ap, sym, ◌∙◌, subst, arith, length}
 use Rattle.std.proofs.lemmas.Bool.Decides.{nat_tests}
 use Rattle.power_loss.specs.Due.{RisesFrom}
 use Rattle.power_loss.specs.Power.{RisesWithin}
@@ -17,9 +17,9 @@ use Rattle.piv_model.specs.Stores.{StoreState}
 use Rattle.piv_rules.specs.Acts.{CardAct, CardAnswer, Records, entries}
 use Rattle.piv_rules.specs.Plans.{IsPlanOf}
 use Rattle.challenge_blocks.specs.Next.{IsNext}
-use Rattle.card_acts.specs.Acts.{Heard}
 use Rattle.card_commands.specs.Executes.{TellsAlike}
 use Rattle.card_app.specs.Stands.{CardStandsFor}
+use Rattle.card_acts.specs.Acts.{Heard}
 use Rattle.card_cell.specs.declared.base.CellBase.{CellBase}
 use Rattle.card_cell.specs.declared.cell.CardCell.{CardCell}
 use Rattle.card_cell.specs.Cells.{CellStandsFor, TurnsOnce, followed, history_of, store_in, turns_of}

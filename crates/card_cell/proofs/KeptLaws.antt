@@ -1,7 +1,7 @@
 -- The numbers of the connections that are kept, and the list without one of them.
-use Rattle.std.proofs.Common.{◌≡◌, ◌<◌, ◌≤◌, ◌+◌, ℕ, zero, suc, Bool, true, false, List, [], ◌∷◌, Some, None, refl, ap, sym, ◌∙◌, subst, arith, length, eqb-true}
 use Rattle.std.specs.Prelude.{not, ◌&&◌, ◌==◌, position, remove, find, nat_lt, IsSome, if◌then◌else◌}
 use Rattle.std.specs.List.{position_or_len}
+use Rattle.std.proofs.Common.{◌≡◌, ◌<◌, ◌≤◌, ◌+◌, ℕ, zero, suc, Bool, true, false, List, [], ◌∷◌, Some, None, refl, ap, sym, ◌∙◌, subst, arith, length, eqb-true}
 use Rattle.std.proofs.lemmas.Bool.Decides.{nat_tests}
 use Rattle.card_cell.specs.declared.connections.Open.{Open}
 use Rattle.card_cell.specs.Kept.{has_number, are_below, without}

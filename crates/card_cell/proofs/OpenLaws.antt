@@ -1,6 +1,6 @@
 -- The connections that a cell keeps, after one entry more.
-use Rattle.std.proofs.Common.{◌≡◌, ◌≤◌, ◌+◌, ℕ, Bool, true, false, List, ◌∷◌, Option, Some, None, refl, ap, sym, ◌∙◌, subst, arith, eqb-true}
 use Rattle.std.specs.Prelude.{not, ◌&&◌, ◌||◌, ◌==◌, find, option_map, unwrap_or, count_by, IsSome, if◌then◌else◌}
+use Rattle.std.proofs.Common.{◌≡◌, ◌≤◌, ◌+◌, ℕ, Bool, true, false, List, ◌∷◌, Option, Some, None, refl, ap, sym, ◌∙◌, subst, arith, eqb-true}
 use Rattle.std.proofs.lemmas.List.Sums.{sum_by-cons}
 use mathlib.Core.Bool.{cond}
 use Rattle.piv_model.specs.declared.kinds.Interface.{Interface}

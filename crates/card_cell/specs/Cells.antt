@@ -12,9 +12,9 @@ use Rattle.piv_rules.specs.Acts.{CardAct, CardAnswer, Mute, CardRecord, Records,
 use Rattle.piv_rules.specs.Connections.{epoch}
 use Rattle.piv_rules.specs.RandomBlocks.{draws_count}
 use Rattle.challenge_blocks.specs.Next.{IsNext}
-use Rattle.card_acts.specs.Acts.{Heard}
 use Rattle.card_app.specs.Plans.{DueFollows, GoesOn}
 use Rattle.card_app.specs.Stands.{CardStandsFor, store_state}
+use Rattle.card_acts.specs.Acts.{Heard}
 use Rattle.card_cell.specs.declared.cell.CardCell.{CardCell}
 use Rattle.card_cell.specs.Epochs.{epoch_in}
 use Rattle.card_cell.specs.Exchanged.{latest}

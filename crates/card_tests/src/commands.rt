@@ -1,8 +1,8 @@
 // The commands of the card, over the store in memory.
 ghost use Rattle.std.specs.Prelude.{◌≡◌, ◌≤◌, IsTrue, IfOk};
 ghost use Rattle.power_loss.specs.Due.{RisesFrom};
-ghost use Rattle.piv_model.specs.Starts.{SpellsMemory};
 ghost use Rattle.power_loss.specs.Plans.{write_numbers};
+ghost use Rattle.piv_model.specs.Starts.{SpellsMemory};
 
 use card_commands::{Conn, execute, losses_are_told, took, words_are_those_of_the_table};
 use memory_store::{Leaves, Loss, MemoryStore};

@@ -1,8 +1,8 @@
 -- On which card the acts of a line's call are.
-use Rattle.std.proofs.Common.{◌≡◌, ℕ, zero, suc, ◌*◌, ◌<◌, Bool, true, false, cond, List, [], ◌∷◌, length, drop, Option, Some, None, sym, refl, subst}
 use Rattle.std.specs.Prelude.{IfSome, nat_lt, slice_get, option_and_then}
-use Rattle.card_acts.specs.Acts.{Heard}
+use Rattle.std.proofs.Common.{◌≡◌, ℕ, zero, suc, ◌*◌, ◌<◌, Bool, true, false, cond, List, [], ◌∷◌, length, drop, Option, Some, None, sym, refl, subst}
 use Rattle.piv_objects.specs.Authenticators.{Credential}
+use Rattle.card_acts.specs.Acts.{Heard}
 use Rattle.client_api.specs.Calls.{Handle, Call, Decided, Connect, Disconnect, Select, LogIn, LogOut, Get, Put, Crypt, Admin, Transmit, Switch, Replies, Asked, turn_of, sends, joined, goes_on, exchange, verify, piece}
 use Rattle.client_api.specs.Steps.{HasCard}
 use Rattle.client_api.specs.Laws.{CallsStayOnCards}

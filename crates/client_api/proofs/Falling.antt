@@ -1,11 +1,11 @@
 -- Each step leaves fewer turns.
-use Rattle.std.proofs.Common.{◌≡◌, ℕ, zero, suc, ◌-◌, ◌*◌, ◌/◌, ◌<◌, Bool, true, false, cond, ◌&&◌, List, [], ◌∷◌, length, drop, Option, Some, None, sym, refl, subst, arith}
 use Rattle.std.specs.Prelude.{IsSome, is_some, nat_lt, slice_get, option_and_then}
+use Rattle.std.proofs.Common.{◌≡◌, ℕ, zero, suc, ◌-◌, ◌*◌, ◌/◌, ◌<◌, Bool, true, false, cond, ◌&&◌, List, [], ◌∷◌, length, drop, Option, Some, None, sym, refl, subst, arith}
 use Rattle.std.proofs.lemmas.Option.{slice_get_within}
 use Rattle.std.proofs.lemmas.Bool.Decides.{nat_tests}
 use Rattle.piv_objects.specs.Authenticators.{Credential}
-use Rattle.client_api.specs.declared.call.Step.TheVariants as step
 use Rattle.card_acts.specs.Acts.{Heard}
+use Rattle.client_api.specs.declared.call.Step.TheVariants as step
 use Rattle.client_api.specs.Calls.{Handle, Call, Decided, Connect, Disconnect, Select, LogIn, LogOut, Get, Put, Crypt, Admin, Transmit, Switch, Replies, Asked, turn_of, sends, joined, act_after, goes_on, word_of, tells_more, exchange, verify, piece, with_data}
 use Rattle.client_api.specs.Answers.{with_idle, by_last, handle_by}
 use Rattle.client_api.specs.Machine.{Going, At, Ended, Over, asked, next, is_ended}

@@ -1,6 +1,6 @@
 -- A call with a turn answers TranscriptFull only where its last turn was answered Full.
-use Rattle.std.proofs.Common.{◌≡◌, ◌≢◌, ℕ, Bool, true, false, cond, eqb, List, [], ◌∷◌, Option, Some, None, refl}
 use Rattle.std.specs.Prelude.{IsSome, ◌||◌}
+use Rattle.std.proofs.Common.{◌≡◌, ◌≢◌, ℕ, Bool, true, false, cond, eqb, List, [], ◌∷◌, Option, Some, None, refl}
 use Rattle.piv_model.specs.declared.answers.ApiAnswer.{ApiAnswer}
 use Rattle.piv_model.specs.declared.answers.ApiAnswer.TheVariants as api
 use Rattle.piv_rules.specs.Acts as acts

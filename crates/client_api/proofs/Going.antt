@@ -1,10 +1,10 @@
 -- Steps one after the other.
-use Rattle.std.proofs.Common.{◌≡◌, ◌⊎◌, inl, inr, ℕ, cond, List, [], ◌∷◌, ◌++◌, Option, Some, None, sym, refl, subst, ap, ◌∙◌}
 use Rattle.std.specs.Prelude.{IsSome, is_some, MatchOption}
-use Rattle.client_api.specs.Ports.{Log, TurnedPort, Own}
+use Rattle.std.proofs.Common.{◌≡◌, ◌⊎◌, inl, inr, ℕ, cond, List, [], ◌∷◌, ◌++◌, Option, Some, None, sym, refl, subst, ap, ◌∙◌}
 use Rattle.piv_model.specs.declared.answers.ApiAnswer.{ApiAnswer}
 use Rattle.piv_model.specs.declared.answers.ApiAnswer.TheVariants as api
 use Rattle.card_acts.specs.Acts.{Heard}
+use Rattle.client_api.specs.Ports.{Log, TurnedPort, Own}
 use Rattle.client_api.specs.declared.call.Step.{Step}
 use Rattle.client_api.specs.declared.call.Step.TheVariants as step
 use Rattle.client_api.specs.Calls.{Handle, Call, Replies, Asked, sends}

@@ -1,6 +1,6 @@
 -- Which calls hand a handle back.
-use Rattle.std.proofs.Common.{◌≡◌, ◌⊎◌, inl, inr, ℕ, zero, suc, Bool, true, false, cond, List, [], ◌∷◌, Option, Some, None, sym, refl, subst, ◌∙◌}
 use Rattle.std.specs.Prelude.{IsSome, is_some}
+use Rattle.std.proofs.Common.{◌≡◌, ◌⊎◌, inl, inr, ℕ, zero, suc, Bool, true, false, cond, List, [], ◌∷◌, Option, Some, None, sym, refl, subst, ◌∙◌}
 use Rattle.piv_model.specs.declared.kinds.Interface.{Interface}
 use Rattle.piv_rules.specs.Acts as acts
 use Rattle.card_acts.specs.Acts.{Heard, is_answer_to}

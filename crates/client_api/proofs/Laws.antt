@@ -1,6 +1,6 @@
 -- The machine does what the tables say.
-use Rattle.std.proofs.Common.{◌≡◌, suc, Bool, true, false, cond, [], ◌∷◌, length, Option, Some, None, sym, refl, ap, subst, ◌∙◌}
 use Rattle.std.specs.Prelude.{IsSome, is_some}
+use Rattle.std.proofs.Common.{◌≡◌, suc, Bool, true, false, cond, [], ◌∷◌, length, Option, Some, None, sym, refl, ap, subst, ◌∙◌}
 use Rattle.card_acts.specs.Acts.{Heard}
 use Rattle.client_api.specs.Calls as calls
 use Rattle.client_api.specs.Calls.{Call, Replies, Asked, turn_of, act_after, sends, joined, with_data, goes_on}

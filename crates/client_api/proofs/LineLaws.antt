@@ -1,19 +1,19 @@
 -- How many turns a line's call has, and that it is one call.
-use Rattle.std.proofs.Common.{◌≡◌, ◌∙◌, inl, inr, ℕ, suc, ◌+◌, ◌/◌, ◌<◌, ◌≤◌, Bool, true, false, cond, List, [], ◌∷◌, ◌++◌, length, Option, Some, None, sym, refl, ap, subst, arith, replicate}
 use Rattle.std.specs.Prelude.{IsSome, nat_lt, ◌==◌}
+use Rattle.std.proofs.Common.{◌≡◌, ◌∙◌, inl, inr, ℕ, suc, ◌+◌, ◌/◌, ◌<◌, ◌≤◌, Bool, true, false, cond, List, [], ◌∷◌, ◌++◌, length, Option, Some, None, sym, refl, ap, subst, arith, replicate}
 use Rattle.std.proofs.lemmas.List.{length-append, length-replicate}
+use Rattle.ber_tlv.specs.Elements.{header_of, length_bytes, spell}
 use Rattle.piv_model.specs.declared.kinds.Interface.{Interface}
 use Rattle.piv_model.specs.declared.answers.ApiAnswer.{ApiAnswer}
 use Rattle.piv_model.specs.declared.answers.ApiAnswer.TheVariants as api
-use Rattle.piv_rules.specs.Acts as acts
 use Rattle.piv_model.specs.Objects.{place_of_oid, row_at, discovery_place}
-use Rattle.piv_rules.specs.Acts.{CardAct}
-use Rattle.ber_tlv.specs.Elements.{header_of, length_bytes, spell}
-use Rattle.piv_objects.specs.Authenticators.{Credential, AreAuthenticators}
-use Rattle.piv_objects.proofs.Pins.{first_one, first_shorter}
 use Rattle.script_line.specs.declared.line.Line.{Line}
 use Rattle.script_line.specs.declared.line.Line.TheVariants as line
 use Rattle.script_line.specs.Playable.{IsPlayable}
+use Rattle.piv_rules.specs.Acts as acts
+use Rattle.piv_rules.specs.Acts.{CardAct}
+use Rattle.piv_objects.specs.Authenticators.{Credential, AreAuthenticators}
+use Rattle.piv_objects.proofs.Pins.{first_one, first_shorter}
 use Rattle.client_api.specs.Calls.{Handle, Call, Decided, Connect, Disconnect, Select, LogIn, LogOut, Get, Put, Crypt, Admin, Transmit, Switch, Replies, sends}
 use Rattle.client_api.specs.Steps.{most_turns}
 use Rattle.client_api.specs.Makers.{LogsIn, connect_to, get_at, put_at, put_header, put_element}

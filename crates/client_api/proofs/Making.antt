@@ -1,8 +1,8 @@
 -- What makers start.
-use Rattle.std.proofs.Common.{◌≡◌, ℕ, zero, suc, ◌+◌, ◌*◌, ◌≤◌, true, false, cond, List, [], ◌∷◌, ◌++◌, length, drop, take, map, Option, Some, None, sym, refl, ap, subst, ◌∙◌, arith, add-one}
-use Rattle.std.proofs.lemmas.List.{reverse-append}
 use Rattle.std.specs.Prelude.{reverse, slice_get, nat_lt, is_some}
 use Rattle.std.specs.Str.{bytes_eq}
+use Rattle.std.proofs.Common.{◌≡◌, ℕ, zero, suc, ◌+◌, ◌*◌, ◌≤◌, true, false, cond, List, [], ◌∷◌, ◌++◌, length, drop, take, map, Option, Some, None, sym, refl, ap, subst, ◌∙◌, arith, add-one}
+use Rattle.std.proofs.lemmas.List.{reverse-append}
 use Rattle.std.proofs.lemmas.Bool.Decides.{nat_tests}
 use Rattle.ber_tlv.specs.Elements.{header_of, length_bytes}
 use Rattle.piv_objects.specs.Authenticators.{Credential, AreAuthenticators, IsAuthenticatorList}

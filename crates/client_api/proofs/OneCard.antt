@@ -1,6 +1,6 @@
 -- All acts of a call are on one card.
-use Rattle.std.proofs.Common.{◌≡◌, ℕ, zero, suc, Bool, true, false, cond, List, [], ◌∷◌, length, Option, Some, None, sym, refl, ap, ◌∙◌}
 use Rattle.std.specs.Prelude.{slice_get, option_and_then}
+use Rattle.std.proofs.Common.{◌≡◌, ℕ, zero, suc, Bool, true, false, cond, List, [], ◌∷◌, length, Option, Some, None, sym, refl, ap, ◌∙◌}
 use Rattle.piv_objects.specs.Authenticators.{Credential}
 use Rattle.client_api.specs.Calls as calls
 use Rattle.client_api.specs.Calls.{Handle, Call, Replies, Asked, turn_of, sends, exchange, verify, joined, goes_on}

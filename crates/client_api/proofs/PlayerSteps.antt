@@ -1,9 +1,9 @@
 -- A step of a player, from a step of its call.
-use Rattle.std.proofs.Common.{◌≡◌, ◌∙◌, ℕ, cond, List, [], ◌∷◌, ◌++◌, length, Option, Some, None, sym, refl, ap, subst}
 use Rattle.std.specs.Prelude.{IsSome, is_some, MatchOption, slice_get}
+use Rattle.std.proofs.Common.{◌≡◌, ◌∙◌, ℕ, cond, List, [], ◌∷◌, ◌++◌, length, Option, Some, None, sym, refl, ap, subst}
+use Rattle.script_line.specs.declared.line.Line.{Line}
 use Rattle.piv_rules.specs.Acts.{CardAnswer}
 use Rattle.card_acts.specs.Acts.{Heard}
-use Rattle.script_line.specs.declared.line.Line.{Line}
 use Rattle.client_api.specs.declared.call.Step.{Step}
 use Rattle.client_api.specs.declared.call.Step.TheVariants as step
 use Rattle.client_api.specs.Calls.{Call, Replies, Asked, sends}

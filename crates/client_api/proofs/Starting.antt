@@ -1,14 +1,14 @@
 -- The call of the next line: which one it is, on which card, and how many turns it has.
-use Rattle.std.proofs.Common.{◌≡◌, ◌∙◌, inl, inr, ℕ, zero, suc, ◌+◌, ◌≤◌, ◌<◌, Bool, true, false, cond, List, [], ◌∷◌, ◌++◌, length, drop, Option, Some, None, sym, refl, ap, subst, arith}
 use Rattle.std.specs.Prelude.{IfSome, IsSome, MatchOption, slice_get, is_some}
 use Rattle.std.specs.List.{AllByRecursion}
 use Rattle.std.specs.Str.{bytes_eq}
+use Rattle.std.proofs.Common.{◌≡◌, ◌∙◌, inl, inr, ℕ, zero, suc, ◌+◌, ◌≤◌, ◌<◌, Bool, true, false, cond, List, [], ◌∷◌, ◌++◌, length, drop, Option, Some, None, sym, refl, ap, subst, arith}
 use Rattle.piv_model.specs.declared.kinds.Interface.{Interface}
 use Rattle.piv_model.specs.Objects.{place_of_oid}
-use Rattle.card_acts.specs.Acts.{Heard}
 use Rattle.script_line.specs.declared.line.Line.{Line}
 use Rattle.script_line.specs.declared.line.Line.TheVariants as line
 use Rattle.script_line.specs.Playable.{IsPlayable, ArePlayable}
+use Rattle.card_acts.specs.Acts.{Heard}
 use Rattle.client_api.specs.Calls.{Handle, Call, Decided, Connect, Disconnect, Select, LogIn, LogOut, Get, Put, Crypt, Admin, Transmit, Switch, Replies, sends, turn_of}
 use Rattle.client_api.specs.Answers.{api_answer, handle_after, handle_by}
 use Rattle.client_api.specs.Machine.{Going, At, Ended, start}

@@ -1,13 +1,13 @@
 -- A step, from what the machine does.
-use Rattle.std.proofs.Common.{◌≡◌, ◌≢◌, ℕ, zero, suc, ◌+◌, ◌*◌, ◌<◌, ◌≤◌, Bool, true, false, cond, List, [], ◌∷◌, length, Option, Some, None, sym, refl, ap, subst, ◌∙◌, arith}
 use Rattle.std.specs.Prelude.{IsSome, MatchOption, is_some, nat_lt, slice_get, option_and_then}
+use Rattle.std.proofs.Common.{◌≡◌, ◌≢◌, ℕ, zero, suc, ◌+◌, ◌*◌, ◌<◌, ◌≤◌, Bool, true, false, cond, List, [], ◌∷◌, length, Option, Some, None, sym, refl, ap, subst, ◌∙◌, arith}
 use Rattle.std.proofs.lemmas.Bool.Decides.{nat_tests}
+use Rattle.card_acts.specs.Acts.{Heard, is_answer_to}
 use Rattle.client_api.specs.Ports.{Log}
 use Rattle.client_api.specs.declared.call.Step.{Step}
 use Rattle.client_api.specs.declared.call.Step.TheVariants as step
 use Rattle.client_api.specs.declared.state.State.{State}
 use Rattle.client_api.specs.declared.state.State.TheVariants as state
-use Rattle.card_acts.specs.Acts.{Heard, is_answer_to}
 use Rattle.client_api.specs.Calls.{Call, Replies, Asked, sends, exchange, verify, piece}
 use Rattle.client_api.specs.Answers.{api_answer, handle_after}
 use Rattle.client_api.specs.Machine.{Going, At, Ended, Over, asked, next, after, is_ended}

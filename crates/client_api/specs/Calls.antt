@@ -1,16 +1,16 @@
 -- The calls of the client API, and what each of them sends (SP 800-73-4 part 3, client application programming
 -- interface; the commands are those of part 2).
 use Rattle.std.specs.Prelude.{ℕ, zero, suc, ◌-◌, ◌*◌, ◌==◌, nat_lt, nat_le, Bool, false, not, ◌&&◌, List, [], ◌∷◌, ◌++◌, length, take, drop, Option, Some, None, is_some, option_and_then, slice_get, replicate, if◌then◌else◌}
+use Rattle.ber_tlv.specs.Elements.{spell}
 use Rattle.piv_model.specs.declared.kinds.Interface.{Interface}
 use Rattle.piv_model.specs.declared.answers.ApiAnswer.{ApiAnswer}
 use Rattle.piv_model.specs.ApduForms.{command_bytes}
 use Rattle.piv_model.specs.ApplicationNames.{full_aid, idle_aid}
 use Rattle.piv_model.specs.Objects.{row_at}
 use Rattle.piv_model.specs.Cipher.{encipher}
-use Rattle.ber_tlv.specs.Elements.{spell}
-use Rattle.piv_objects.specs.Authenticators.{Credential}
 use Rattle.piv_rules.specs.Acts.{CardAct, CardAnswer}
 use Rattle.piv_rules.specs.Acts as acts
+use Rattle.piv_objects.specs.Authenticators.{Credential}
 use Rattle.card_acts.specs.Acts.{Heard}
 
 -- an open connection, as its caller knows it

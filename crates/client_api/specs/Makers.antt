@@ -1,9 +1,9 @@
 -- The calls that the makers make. Those that are answered without a turn are decided here (SP 800-73-4 part 3).
 use Rattle.std.specs.Prelude.{◌≡◌, ◌⊎◌, ◌==◌, ℕ, Bool, List, ◌++◌, length, Option, Some, None, if◌then◌else◌}
+use Rattle.ber_tlv.specs.Elements.{header_of, spell}
 use Rattle.piv_model.specs.declared.kinds.Interface.{Interface}
 use Rattle.piv_model.specs.declared.answers.ApiAnswer.TheVariants as api
 use Rattle.piv_model.specs.Objects.{discovery_place, row_at, place_of_oid}
-use Rattle.ber_tlv.specs.Elements.{header_of, spell}
 use Rattle.piv_objects.specs.Authenticators.{Credential, IsAuthenticatorList}
 use Rattle.piv_objects.specs.Connections.{IsConnectionDescription}
 use Rattle.client_api.specs.Calls.{Handle, Call, Decided, Connect, LogIn, Get, Put}

@@ -4,10 +4,10 @@ use Rattle.std.specs.Str.{bytes_eq}
 use Rattle.piv_model.specs.declared.kinds.Interface.{Interface}
 use Rattle.piv_model.specs.declared.answers.ApiAnswer.{ApiAnswer}
 use Rattle.piv_model.specs.declared.answers.ApiAnswer.TheVariants as api
-use Rattle.piv_rules.specs.Acts.{CardAct}
-use Rattle.piv_rules.specs.Acts as acts
 use Rattle.script_line.specs.declared.line.Line.{Line}
 use Rattle.script_line.specs.declared.line.Line.TheVariants as line
+use Rattle.piv_rules.specs.Acts.{CardAct}
+use Rattle.piv_rules.specs.Acts as acts
 use Rattle.client_api.specs.Calls.{Handle, Call, Decided, Disconnect, Select, LogOut, Crypt, Admin, Transmit, Switch, Replies, sends}
 use Rattle.client_api.specs.Answers.{api_answer, handle_after}
 use Rattle.client_api.specs.Makers.{LogsIn, connect_to, get_of, put_of}

@@ -1,7 +1,7 @@
 // What each call answers after its last turn.
 ghost use Rattle.std.specs.Prelude.{◌≡◌, [], ℕ, List, false, Bool};
-ghost use Rattle.piv_objects.specs.Authenticators.{Credential};
 ghost use Rattle.piv_model.specs.declared.kinds.Interface.{Interface as Side};
+ghost use Rattle.piv_objects.specs.Authenticators.{Credential};
 ghost use Rattle.card_acts.specs.Acts.{answer_of};
 ghost use Rattle.client_api.specs.Calls.{Handle, Connect, Disconnect, Select, LogIn, LogOut, Get, Put, Crypt, Admin, Transmit};
 ghost use Rattle.client_api.specs.Answers.{plain as plain_of, key_rule, by_key, by_last};

@@ -1,7 +1,7 @@
 // The commands that calls send.
 ghost use Rattle.std.specs.Prelude.{◌≡◌, ◌≤◌, ℕ, length, [], ◌∷◌, take};
-ghost use Rattle.piv_model.specs.Objects.{row_at};
 ghost use Rattle.ber_tlv.specs.Elements.{spell};
+ghost use Rattle.piv_model.specs.Objects.{row_at};
 ghost use Rattle.client_api.specs.Calls.{command as command_of, verify as verify_of, piece as piece_of, challenge_in, challenge_answered};
 
 use crate::state::Pin;

@@ -1,7 +1,7 @@
 // What calls run over.
 ghost use Rattle.std.specs.Prelude.{◌≡◌, ℕ, ◌<◌, ◌≤◌, true, List, None};
-ghost use Rattle.card_acts.specs.Acts.{act_of, answer_of, IsShort, is_answer_to};
 ghost use Rattle.piv_model.specs.Base.{Base};
+ghost use Rattle.card_acts.specs.Acts.{act_of, answer_of, IsShort, is_answer_to};
 
 use card_acts::{Act, Answer};
 

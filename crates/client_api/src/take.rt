@@ -1,7 +1,7 @@
 // Where an answer takes a call.
 ghost use Rattle.std.specs.Prelude.{◌≡◌, [], ◌++◌, slice_get, ◌<◌, ◌≤◌, length, vec_capacity, ◌+◌, ◌*◌, ℕ, Some, List, Bool, true, false};
-ghost use Rattle.piv_objects.specs.Authenticators.{Credential};
 ghost use Rattle.piv_rules.specs.Acts.{CardAct};
+ghost use Rattle.piv_objects.specs.Authenticators.{Credential};
 ghost use Rattle.card_acts.specs.Acts.{answer_of};
 ghost use Rattle.client_api.specs.Calls.{Connect, Disconnect, Select, LogIn, LogOut, Get, Put, Crypt, Admin, Transmit, Switch, has_word, data_of};
 ghost use Rattle.client_api.specs.Answers.{by_last, renewed};

@@ -1,8 +1,8 @@
 // What the answers of turns tell.
 ghost use Rattle.std.specs.Prelude.{◌≡◌, [], ◌<◌, ◌≤◌, ℕ, List, length, Some, IfSome, MatchResult};
+ghost use Rattle.piv_model.specs.declared.answers.ApiAnswer.{ApiAnswer as Given};
 ghost use Rattle.piv_rules.specs.Acts.{Replied};
 ghost use Rattle.card_acts.specs.Acts.{answer_of};
-ghost use Rattle.piv_model.specs.declared.answers.ApiAnswer.{ApiAnswer as Given};
 ghost use Rattle.client_api.specs.Calls.{word_of, has_word, is_reply, tells_more, data_of};
 ghost use Rattle.client_api.specs.Answers.{by_told, by_switch, renewed, connected};
 

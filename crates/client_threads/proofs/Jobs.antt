@@ -1,6 +1,6 @@
 -- One record more, in the order of a turnstile and in that of a cell.
-use Rattle.std.proofs.Common.{◌≡◌, List, [], ◌∷◌, Some, None, refl, sym}
 use Rattle.std.specs.Prelude.{reverse}
+use Rattle.std.proofs.Common.{◌≡◌, List, [], ◌∷◌, Some, None, refl, sym}
 use Rattle.std.proofs.lemmas.List.{reverse-append}
 use Rattle.turnstile.specs.Records.{followed}
 use Rattle.piv_model.specs.declared.store.Store.{Ghosts}

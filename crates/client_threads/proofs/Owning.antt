@@ -1,15 +1,15 @@
 -- What a client stands for after a turn.
-use Rattle.std.proofs.Common.{◌≡◌, ◌≢◌, ◌∙◌, ℕ, ◌+◌, ◌<◌, ◌≤◌, Bool, cond, List, [], ◌∷◌, ◌++◌, set, Some, None, sym, refl, ap, subst, arith, length-set, eq-eqb, ne_eqb}
 use Rattle.std.specs.List.{slice_get}
+use Rattle.std.proofs.Common.{◌≡◌, ◌≢◌, ◌∙◌, ℕ, ◌+◌, ◌<◌, ◌≤◌, Bool, cond, List, [], ◌∷◌, ◌++◌, set, Some, None, sym, refl, ap, subst, arith, length-set, eq-eqb, ne_eqb}
 use Rattle.std.proofs.lemmas.Option.{slice_get_within}
 use mathlib.Core.Logic.{dite}
 use native.Mathlib.Decide.{ℕ_discrete}
 use Rattle.turnstile.specs.Known.{after_turn}
+use Rattle.turnstile_rows.proofs.Lists.{set_there, set_same, set_apart}
 use Rattle.piv_rules.specs.Acts.{CardAct}
 use Rattle.card_acts.specs.Acts.{Heard}
 use Rattle.client_api.specs.Ports.{Own, Log, IsAbove, TurnedPort, AreInside, AreSeen}
 use Rattle.client_threads.specs.Passes.{CellGate, CellPass, IsStill, AreStill, turns_of, turns_at, seen_of, seen_at, owns_of, StandsOwn, recorded, TurnedAt}
-use Rattle.turnstile_rows.proofs.Lists.{set_there, set_same, set_apart}
 
 -- ---- what was seen
 

@@ -1,14 +1,14 @@
 -- A turn at a turnstile is a turn at a card.
-use Rattle.std.proofs.Common.{◌≡◌, ◌∙◌, ℕ, List, length, set, Option, Some, sym, ap}
 use Rattle.std.specs.List.{slice_get}
+use Rattle.std.proofs.Common.{◌≡◌, ◌∙◌, ℕ, List, length, set, Option, Some, sym, ap}
 use Rattle.turnstile.specs.Turns.{Turned}
+use Rattle.turnstile.specs.Known.{after_turn}
 use Rattle.piv_model.specs.declared.store.Store.{Ghosts}
+use Rattle.piv_rules.specs.Acts.{CardAct, CardRecord}
 use Rattle.card_acts.specs.declared.answer.Answer.{Answer}
 use Rattle.card_acts.specs.Acts.{answer_of}
 use Rattle.card_cell.specs.Cells.{history_of}
 use Rattle.card_cell.specs.Exchanged.{latest}
-use Rattle.turnstile.specs.Known.{after_turn}
-use Rattle.piv_rules.specs.Acts.{CardAct, CardRecord}
 use Rattle.client_threads.specs.Held.{cell_of, HoldsAll, holds_as_many, record_made, Ran}
 use Rattle.client_threads.specs.Passes.{CellGate, CellPass, TurnedAt}
 

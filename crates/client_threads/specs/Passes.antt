@@ -7,9 +7,9 @@ use Rattle.piv_model.specs.Base.{Base}
 use Rattle.piv_model.specs.Entries.{CardEntry}
 use Rattle.piv_rules.specs.Acts.{CardAct, CardAnswer, CardRecord}
 use Rattle.card_acts.specs.Acts.{Heard, is_answer_to}
+use Rattle.client_api.specs.Ports.{Log, AreInside, AreSeen}
 use Rattle.card_cell.specs.declared.base.CellBase.{CellBase}
 use Rattle.card_cell.specs.Holds.{base_of}
-use Rattle.client_api.specs.Ports.{Log, AreInside, AreSeen}
 
 -- the turnstile of a card, and what a pass of it knows
 abbrev pub CellGate : Type 0

@@ -1,10 +1,10 @@
 // A caller of cards that stand behind turnstiles.
 ghost use Rattle.std.specs.Prelude.{◌≡◌, ◌<◌, [], length, IfSome};
+ghost use Rattle.turnstile_rows.specs.Rows.{ArePassesOf};
 ghost use Rattle.card_acts.specs.Acts.{act_of, answer_of, IsShort};
 ghost use Rattle.client_api.specs.Calls.{Call, Replies};
 ghost use Rattle.client_api.specs.Steps.{IsOn, IsAt};
 ghost use Rattle.client_api.specs.Whole.{IsMadeOn};
-ghost use Rattle.turnstile_rows.specs.Rows.{ArePassesOf};
 ghost use Rattle.client_threads.specs.Passes.{AreStill, StandsOwn, TurnedAt, seen_at, turns_at};
 
 use crate::act_job::ActJob;

@@ -1,24 +1,24 @@
 -- What the scripts did, by what the port stands for.
-use Rattle.std.proofs.Common.{◌≡◌, ℕ, Bool, List, length, Result, Ok, Err, sym, ap, subst, ◌∙◌, arith}
 use Rattle.std.specs.Prelude.{OnOk}
+use Rattle.std.proofs.Common.{◌≡◌, ℕ, Bool, List, length, Result, Ok, Err, sym, ap, subst, ◌∙◌, arith}
 use Rattle.std.proofs.lemmas.List.{length-map}
 use Rattle.piv_model.specs.declared.store.Store.{Ghosts}
-use Rattle.piv_rules.specs.Acts.{Records}
 use Rattle.script_line.specs.Scripts.{ScriptData}
+use Rattle.piv_rules.specs.Acts.{Records}
 use Rattle.block_store.specs.Blocks.{block_form}
-use Rattle.card_cell.specs.declared.base.CellBase.{CellBase}
-use Rattle.card_cell.specs.declared.cell.CardCell.{CardCell}
 use Rattle.client_api.specs.Players.{Played}
 use Rattle.client_api.specs.Ports.{AreInside}
 use Rattle.client_api.specs.Readers.{Names}
-use Rattle.cell_port.specs.Owned.{HoldAll, OwnerStandsFor, turns_at}
-use Rattle.cell_port.specs.OwnedLaws.{found, turns-held}
 use Rattle.piv_scene.specs.SceneValues.{SceneValue}
+use Rattle.scene_readers.specs.SceneNames.{names_of}
+use Rattle.card_cell.specs.declared.base.CellBase.{CellBase}
+use Rattle.card_cell.specs.declared.cell.CardCell.{CardCell}
 use Rattle.script_runs.specs.Runs.{Answered, Run, Scheduled, Scripts, log_of}
 use Rattle.script_runs.specs.Turns.{HasTurns, all_turns}
 use Rattle.script_runs.specs.Progress.{Ran, answers_of, scripts_of}
+use Rattle.cell_port.specs.Owned.{HoldAll, OwnerStandsFor, turns_at}
+use Rattle.cell_port.specs.OwnedLaws.{found, turns-held}
 use Rattle.scene_cells.specs.Turns.{scene_turns}
-use Rattle.scene_readers.specs.SceneNames.{names_of}
 use Rattle.scene_runs.specs.CardRuns.{HaveTurns, lines_of}
 use Rattle.scene_runs.proofs.Lines.{turns-of-all}
 use Rattle.piv_bench.specs.Played.{PlayedOn}

@@ -1,30 +1,30 @@
 -- What stands on the devices after a scheduled run.
-use Rattle.std.proofs.Common.{◌≡◌, ℕ, Bool, true, List, [], ◌++◌, length, map, Option, Some, None, IfSome, sym, ap, subst, ◌∙◌, arith}
 use Rattle.std.specs.Prelude.{is_some, option_map, slice_get}
+use Rattle.std.proofs.Common.{◌≡◌, ℕ, Bool, true, List, [], ◌++◌, length, map, Option, Some, None, IfSome, sym, ap, subst, ◌∙◌, arith}
 use Rattle.std.proofs.lemmas.List.{append-nil}
 use Rattle.std.proofs.lemmas.Option.{slice_get_within}
 use Rattle.power_loss.specs.Plans.{write_numbers}
-use Rattle.nvm_device.specs.Device.{DeviceState}
 use Rattle.piv_model.specs.declared.answers.ApiAnswer.{ApiAnswer}
 use Rattle.piv_model.specs.declared.store.Store.{Ghosts}
 use Rattle.piv_model.specs.Base.{Base}
 use Rattle.piv_model.specs.Entries.{Past}
 use Rattle.piv_model.specs.Memory.{Memory}
+use Rattle.nvm_device.specs.Device.{DeviceState}
 use Rattle.piv_rules.specs.Acts.{entries}
 use Rattle.piv_rules.specs.Plans.{ArePlanned, IsPlanOf}
 use Rattle.card_image.specs.Images.{memory_of}
 use Rattle.block_store.specs.Blocks.{block_form}
 use Rattle.block_store.specs.Devices.{OthersStand}
+use Rattle.client_api.specs.Ports.{records_of}
+use Rattle.scene_cards.specs.CardValues.{CardValue}
+use Rattle.piv_scene.specs.SceneValues.{SceneValue}
 use Rattle.card_cell.specs.declared.base.CellBase.{CellBase}
 use Rattle.card_cell.specs.declared.cell.CardCell.{CardCell}
 use Rattle.card_cell.specs.Cells.{history_of, store_in}
 use Rattle.card_cell.specs.Holds.{IsHeld, base_of}
+use Rattle.script_runs.specs.Runs.{Run, log_of}
 use Rattle.cell_port.specs.Owned.{tells_due}
 use Rattle.cell_port.specs.OwnedLaws.{found}
-use Rattle.client_api.specs.Ports.{records_of}
-use Rattle.scene_cards.specs.CardValues.{CardValue}
-use Rattle.piv_scene.specs.SceneValues.{SceneValue}
-use Rattle.script_runs.specs.Runs.{Run, log_of}
 use Rattle.scene_cells.specs.Lowered.{AreLeft}
 use Rattle.scene_cells.specs.Raised.{AreRaised, cell_base, cell_bases}
 use Rattle.scene_cells.specs.Turns.{scene_turns}

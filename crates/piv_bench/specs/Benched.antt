@@ -1,19 +1,19 @@
 -- What a run of a scene did: its scripts, its cards, and the devices of these (this project's own).
 use Rattle.std.specs.Prelude.{◌≡◌, ℕ, List, [], length, Some, IfSome, slice_get}
 use Rattle.power_loss.specs.Plans.{write_numbers}
-use Rattle.nvm_device.specs.Device.{DeviceState}
 use Rattle.piv_model.specs.declared.answers.ApiAnswer.{ApiAnswer}
 use Rattle.piv_model.specs.Entries.{Past}
+use Rattle.nvm_device.specs.Device.{DeviceState}
 use Rattle.piv_rules.specs.Acts.{entries}
 use Rattle.piv_rules.specs.Plans.{ArePlanned}
 use Rattle.block_store.specs.Blocks.{block_form}
-use Rattle.card_cell.specs.Holds.{base_of}
 use Rattle.client_api.specs.Ports.{ArePlaces, AreInside, records_of}
 use Rattle.scene_cards.specs.CardValues.{CardValue}
 use Rattle.piv_scene.specs.SceneValues.{SceneValue}
+use Rattle.scene_readers.specs.SceneNames.{names_of}
+use Rattle.card_cell.specs.Holds.{base_of}
 use Rattle.script_runs.specs.Runs.{Answered, Run, Scheduled, log_of}
 use Rattle.script_runs.specs.Turns.{NeverFull, moves_in}
-use Rattle.scene_readers.specs.SceneNames.{names_of}
 use Rattle.scene_runs.specs.CardRuns.{CardsRan, lines_of}
 
 -- The scripts made their steps in the order of the schedule and then in rounds, each to its end, and have these

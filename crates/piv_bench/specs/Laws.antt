@@ -3,9 +3,9 @@ use Rattle.std.specs.Prelude.{List}
 use Rattle.piv_model.specs.declared.answers.ApiAnswer.{ApiAnswer}
 use Rattle.client_api.specs.Ports.{records_of}
 use Rattle.piv_scene.specs.SceneValues.{SceneValue}
+use Rattle.scene_readers.specs.SceneNames.{names_of}
 use Rattle.script_runs.specs.Runs.{Run, log_of, moves_of}
 use Rattle.script_runs.specs.Shares.{SharesOut}
-use Rattle.scene_readers.specs.SceneNames.{names_of}
 use Rattle.scene_runs.specs.CardRuns.{lines_of}
 use Rattle.piv_bench.specs.Benched.{ScriptsRan}
 

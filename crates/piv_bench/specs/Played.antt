@@ -1,19 +1,19 @@
 -- What the scripts did on the cells of a scene, and what these left (this project's own).
 use Rattle.std.specs.Prelude.{◌≡◌, ℕ, Bool, true, List, Some, IfSome, slice_get}
-use Rattle.nvm_device.specs.Device.{DeviceState}
 use Rattle.piv_model.specs.declared.answers.ApiAnswer.{ApiAnswer}
 use Rattle.piv_model.specs.declared.store.Store.{Ghosts}
 use Rattle.piv_model.specs.Entries.{Past}
+use Rattle.nvm_device.specs.Device.{DeviceState}
 use Rattle.piv_rules.specs.Acts.{entries}
 use Rattle.piv_rules.specs.Plans.{ArePlanned}
 use Rattle.block_store.specs.Blocks.{block_form}
+use Rattle.client_api.specs.Ports.{records_of}
+use Rattle.piv_scene.specs.SceneValues.{SceneValue}
 use Rattle.card_cell.specs.declared.base.CellBase.{CellBase}
 use Rattle.card_cell.specs.declared.cell.CardCell.{CardCell}
 use Rattle.card_cell.specs.Holds.{base_of}
-use Rattle.cell_port.specs.Owned.{HoldAll, TellAs}
-use Rattle.client_api.specs.Ports.{records_of}
-use Rattle.piv_scene.specs.SceneValues.{SceneValue}
 use Rattle.script_runs.specs.Runs.{Run, log_of}
+use Rattle.cell_port.specs.Owned.{HoldAll, TellAs}
 use Rattle.scene_runs.specs.CardRuns.{AreLeftBy}
 use Rattle.piv_bench.specs.Benched.{ScriptsRan}
 

@@ -2,11 +2,11 @@
 ghost use Rattle.std.specs.Prelude.{◌≡◌, [], length, OnOk};
 ghost use Rattle.block_store.specs.Blocks.{block_form};
 ghost use Rattle.client_api.specs.Players.{AreNamesOn};
-ghost use Rattle.cell_port.specs.Owned.{HoldAll, TellAs};
+ghost use Rattle.scene_readers.specs.SceneNames.{names_of};
 ghost use Rattle.script_runs.specs.Progress.{AreBegun, answers_of, scripts_of};
 ghost use Rattle.script_runs.specs.Runs.{Run};
+ghost use Rattle.cell_port.specs.Owned.{HoldAll, TellAs};
 ghost use Rattle.scene_cells.specs.Turns.{scene_turns};
-ghost use Rattle.scene_readers.specs.SceneNames.{names_of};
 ghost use Rattle.scene_runs.specs.CardRuns.{HaveTurns, lines_of};
 ghost use Rattle.piv_bench.specs.Played.{PlayedOn};
 

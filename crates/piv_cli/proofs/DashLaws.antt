@@ -1,10 +1,10 @@
 -- Dashes in an output, and what a loss of power leaves of a store.
-use Rattle.std.proofs.Common.{◌≡◌, ℕ, suc, zero, Bool, true, false, List, [], ◌∷◌, ◌++◌, refl, ap, sym, ◌∙◌, subst}
 use Rattle.std.specs.Prelude.{◌==◌, ◌||◌, ◌/◌, ◌%◌, not, slice_index}
+use Rattle.std.proofs.Common.{◌≡◌, ℕ, suc, zero, Bool, true, false, List, [], ◌∷◌, ◌++◌, refl, ap, sym, ◌∙◌, subst}
 use Rattle.std.proofs.lemmas.List.Folds.{list_any-append}
+use Rattle.hex.specs.Hex.{encode_with, encode_upper, upper_digits}
 use Rattle.power_loss.specs.Told.{Rose}
 use Rattle.piv_model.specs.Stores.{StoreState}
-use Rattle.hex.specs.Hex.{encode_with, encode_upper, upper_digits}
 use Rattle.piv_cli.specs.Lines.{has_dash}
 use Rattle.piv_cli.specs.Sessions.{LosesOnce}
 

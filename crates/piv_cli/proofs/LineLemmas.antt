@@ -1,12 +1,12 @@
 -- What lines write, one after the other.
-use Rattle.std.proofs.Common.{◌≡◌, ◌≤◌, ◌<◌, ◌+◌, ℕ, suc, Bool, true, false, length, arith, List, [], ◌∷◌, ◌++◌, refl, ap, sym, subst, ◌∙◌, Some}
 use Rattle.std.specs.Prelude.{◌==◌, filter, Result, Ok, Err, IfOk, IsTrue, if◌then◌else◌}
-use Rattle.hex.specs.Hex.{decode_of, encode_upper}
 use Rattle.std.specs.List.{slice_split}
 use Rattle.std.specs.Str.Lines.{strip_carriage_return}
+use Rattle.std.proofs.Common.{◌≡◌, ◌≤◌, ◌<◌, ◌+◌, ℕ, suc, Bool, true, false, length, arith, List, [], ◌∷◌, ◌++◌, refl, ap, sym, subst, ◌∙◌, Some}
 use Rattle.std.proofs.lemmas.List.{append-nil, append_assoc, length-map}
 use Rattle.std.proofs.lemmas.List.Sums.{count_by-le-length}
 use Rattle.std.proofs.lemmas.Bool.Decides.{nat_tests}
+use Rattle.hex.specs.Hex.{decode_of, encode_upper}
 use Rattle.piv_model.specs.declared.kinds.Took.{Took}
 use Rattle.piv_model.specs.declared.store.Store.{Ghosts}
 use Rattle.piv_model.specs.Base.{Base}
@@ -17,12 +17,12 @@ use Rattle.piv_rules.specs.Connections.{on}
 use Rattle.piv_rules.specs.Losses.{MayTake}
 use Rattle.piv_rules.specs.Memories.{mem}
 use Rattle.piv_rules.specs.RandomBlocks.{draws, draws_count}
-use Rattle.card_app.specs.declared.card.Card.{Card}
-use Rattle.card_app.specs.After.{epoch_at}
-use Rattle.card_app.specs.Stands.{CardStandsFor, attached_count, store_of, store_state}
 use Rattle.challenge_blocks.specs.declared.blocks.Blocks.{Blocks}
 use Rattle.challenge_blocks.specs.Blocks.{most_blocks}
 use Rattle.challenge_blocks.specs.Next.{IsNext}
+use Rattle.card_app.specs.declared.card.Card.{Card}
+use Rattle.card_app.specs.After.{epoch_at}
+use Rattle.card_app.specs.Stands.{CardStandsFor, attached_count, store_of, store_state}
 use Rattle.piv_cli.specs.Lines.{Line, Empty, Garbled, Command, counts, decoded_line, LineWrites, LinesWrite, AreLines, is_newline, kept, opened_first, spelled, text_line}
 use Rattle.piv_cli.specs.Outputs.{most_input}
 use Rattle.piv_cli.specs.Sessions.{Answers, AreAnswered, IsAfter, IsSteady, LinesLeave, Replies, line_of}

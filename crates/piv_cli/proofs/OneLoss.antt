@@ -1,8 +1,8 @@
 -- Dashes begin at a command that may lose power.
-use Rattle.std.proofs.Common.{◌≡◌, ◌⊎◌, ℕ, Bool, true, false, List, [], ◌∷◌, ◌++◌, Option, Some, None, refl, ap, sym, subst, ◌∙◌, inl, inr}
 use Rattle.std.specs.Prelude.{◌||◌, ◌-◌, length, take, if◌then◌else◌}
-use Rattle.piv_model.specs.StatusWords.{piece_word}
 use Rattle.std.specs.List.{slice_split}
+use Rattle.std.proofs.Common.{◌≡◌, ◌⊎◌, ℕ, Bool, true, false, List, [], ◌∷◌, ◌++◌, Option, Some, None, refl, ap, sym, subst, ◌∙◌, inl, inr}
+use Rattle.piv_model.specs.StatusWords.{piece_word}
 use Rattle.piv_model.specs.declared.history.ActKind.TheVariants as kind
 use Rattle.piv_model.specs.declared.history.Refusal.{Refusal}
 use Rattle.piv_model.specs.declared.history.Refusal.TheVariants as why

@@ -1,22 +1,22 @@
 -- What a device holds that was personalised as the plain card and served an input.
-use Rattle.std.proofs.Common.{◌≡◌, arith, ℕ, Bool, true, false, List, [], ◌∷◌, Some, None, refl, ap, sym, subst, ◌∙◌}
 use Rattle.std.specs.Prelude.{Option, IfSome, IfOk, Ok, Result, option_map, not}
+use Rattle.std.proofs.Common.{◌≡◌, arith, ℕ, Bool, true, false, List, [], ◌∷◌, Some, None, refl, ap, sym, subst, ◌∙◌}
 use Rattle.power_loss.specs.Told.{Each, Rose}
-use Rattle.nvm_device.specs.Device.{DeviceState}
 use Rattle.piv_model.specs.declared.start.Start.{Start}
 use Rattle.piv_model.specs.Memory.{Memory}
 use Rattle.piv_model.specs.PlainCard.{plain_base, plain_memory}
 use Rattle.piv_model.specs.Starts.{memory_of_start}
 use Rattle.piv_model.specs.Stores.{StoreState}
+use Rattle.nvm_device.specs.Device.{DeviceState}
 use Rattle.card_image.specs.Images.{IsImage, StandsOn, memory_of}
 use Rattle.card_image.specs.Laying.{Done, Personal}
 use Rattle.block_store.specs.Blocks.{block_form}
 use Rattle.block_store.specs.Devices.{IsReady, Spells}
-use Rattle.piv_cli.proofs.DashLaws.{on-by}
 use Rattle.piv_cli.specs.Devices.{AreReady, first_of}
 use Rattle.piv_cli.specs.Lines.{has_dash}
 use Rattle.piv_cli.specs.Outputs.{Serves}
 use Rattle.piv_cli.specs.Sessions.{LinesLeave, LosesOnce}
+use Rattle.piv_cli.proofs.DashLaws.{on-by}
 
 if-told : {A : Type 0} {P Q : A → Type 0} (told : Option A) → IfSome told P → ((x : A) → P x → Q x) → IfSome told Q
 if-told None some then = tt

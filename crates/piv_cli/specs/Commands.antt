@@ -1,7 +1,7 @@
 -- What each command has done when the program ends (this project's own).
 use Rattle.std.specs.Prelude.{◌≡◌, ℕ, List, Option, Some, None}
-use Rattle.nvm_device.specs.Device.{DeviceState}
 use Rattle.piv_model.specs.PlainCard.{plain_memory}
+use Rattle.nvm_device.specs.Device.{DeviceState}
 use Rattle.block_store.specs.Devices.{IsFaulted}
 use Rattle.piv_scene.specs.GeneratedScene.{generated_scene}
 use Rattle.piv_scene.specs.SceneValues.{SceneValue}

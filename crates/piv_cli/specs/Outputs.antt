@@ -2,11 +2,11 @@
 use Rattle.std.specs.Prelude.{◌≡◌, ℕ, List, [], true, false, not, take, Option, Some, IfSome}
 use Rattle.piv_ports.specs.Ports.{with_bytes}
 use Rattle.power_loss.specs.Told.{Rose}
-use Rattle.nvm_device.specs.Device.{DeviceState}
 use Rattle.piv_model.specs.PlainCard.{plain_base}
+use Rattle.nvm_device.specs.Device.{DeviceState}
 use Rattle.piv_rules.specs.Acts.{Records}
-use Rattle.card_app.specs.Left.{Left}
 use Rattle.block_store.specs.Devices.{Spells}
+use Rattle.card_app.specs.Left.{Left}
 use Rattle.piv_cli.specs.Lines.{AreLines, has_dash}
 
 -- the most bytes of an input

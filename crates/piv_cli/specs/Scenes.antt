@@ -1,18 +1,18 @@
 -- What `bench`, `run` and `make` do: a scene is run on devices, and a text of its run is written (this project's own).
 use Rattle.std.specs.Prelude.{◌≡◌, ℕ, ◌+◌, List, [], ◌∷◌, Option, Some, IfSome, Ok}
-use Rattle.nvm_device.specs.Device.{DeviceState}
 use Rattle.piv_model.specs.declared.answers.ApiAnswer.{ApiAnswer}
 use Rattle.piv_model.specs.Entries.{Past}
+use Rattle.nvm_device.specs.Device.{DeviceState}
 use Rattle.piv_rules.specs.Acts.{Records}
 use Rattle.client_api.specs.Playing.{Move}
 use Rattle.piv_scene.specs.GeneratedScene.{generated_scene}
 use Rattle.piv_scene.specs.Outcomes.{outcome}
 use Rattle.piv_scene.specs.SceneValues.{SceneValue}
 use Rattle.script_runs.specs.Runs.{Run}
-use Rattle.piv_bench.specs.Benched.{Benched}
-use Rattle.piv_runners.specs.Together.{RanTogether}
 use Rattle.run_text.specs.RunTexts.{run_text}
 use Rattle.run_text.specs.Summaries.{summary_text}
+use Rattle.piv_bench.specs.Benched.{Benched}
+use Rattle.piv_runners.specs.Together.{RanTogether}
 
 -- ---- how a scene is run, with these answers and histories
 

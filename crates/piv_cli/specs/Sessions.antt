@@ -1,5 +1,6 @@
 -- What is kept between the lines of an input, and what they leave.
 use Rattle.std.specs.Prelude.{◌≡◌, ◌≤◌, ℕ, List, [], ◌∷◌, ◌++◌, Bool, true, false, Some, if◌then◌else◌}
+use Rattle.hex.specs.Hex.{encode_upper}
 use Rattle.power_loss.specs.Told.{Rose}
 use Rattle.piv_model.specs.declared.store.Store.{Ghosts}
 use Rattle.piv_model.specs.Stores.{StoreState}
@@ -7,13 +8,12 @@ use Rattle.piv_model.specs.Base.{Base}
 use Rattle.piv_rules.specs.Acts.{Exchange, CardRecord, Records, entries}
 use Rattle.piv_rules.specs.Connections.{on}
 use Rattle.piv_rules.specs.RandomBlocks.{draws_count}
-use Rattle.hex.specs.Hex.{encode_upper}
+use Rattle.challenge_blocks.specs.declared.blocks.Blocks.{Blocks}
+use Rattle.challenge_blocks.specs.Next.{IsNext}
 use Rattle.card_app.specs.declared.card.Card.{Card}
 use Rattle.card_app.specs.After.{epoch_at}
 use Rattle.card_app.specs.Left.{Left}
 use Rattle.card_app.specs.Stands.{CardStandsFor, store_state}
-use Rattle.challenge_blocks.specs.declared.blocks.Blocks.{Blocks}
-use Rattle.challenge_blocks.specs.Next.{IsNext}
 use Rattle.piv_cli.specs.Lines.{Line, Garbled, Command, LineWrites, AreLines, spelled}
 
 -- the card stands for these records, after which no epoch of connection 1 is stale, and the next block is the card's

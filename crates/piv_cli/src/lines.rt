@@ -3,8 +3,8 @@ ghost use Rattle.std.specs.Prelude.{◌≡◌, ◌≤◌, ◌<◌, [], length, n
 ghost use Rattle.piv_model.specs.Base.{Base};
 ghost use Rattle.piv_rules.specs.Acts.{Records, entries};
 ghost use Rattle.piv_rules.specs.RandomBlocks.{draws_count};
-ghost use Rattle.card_app.specs.Stands.{IsAttached, store_state};
 ghost use Rattle.challenge_blocks.specs.Blocks.{most_blocks};
+ghost use Rattle.card_app.specs.Stands.{IsAttached, store_state};
 ghost use Rattle.piv_cli.specs.Lines.{has_dash, kept as kept_of, opened_first, text_line};
 ghost use Rattle.piv_cli.specs.Outputs.{most_input};
 ghost use Rattle.piv_cli.specs.Sessions.{Answers, AreAnswered, IsAfter, LinesLeave, LosesOnce, Replies};

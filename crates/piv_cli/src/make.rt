@@ -1,12 +1,12 @@
 // The command `make`: a scene is made and run, and its card's history is summed up.
 ghost use Rattle.std.specs.Prelude.{◌≡◌, ◌≢◌, ◌≤◌, ◌+◌, ℕ, List, [], ◌∷◌, length, map, OnOk};
 ghost use Rattle.std.specs.List.{All};
-ghost use Rattle.block_store.specs.Devices.{OthersStand};
 ghost use Rattle.piv_ports.specs.Ports.{IsFlushed, Rises};
 ghost use Rattle.piv_ports.specs.Writes.{Writes};
+ghost use Rattle.block_store.specs.Devices.{OthersStand};
 ghost use Rattle.piv_scene.specs.GeneratedScene.{generated_scene};
-ghost use Rattle.scene_cells.specs.Raised.{HasFault};
 ghost use Rattle.run_text.specs.Summaries.{summary_text};
+ghost use Rattle.scene_cells.specs.Raised.{HasFault};
 ghost use Rattle.piv_cli.specs.Devices.{AreReady};
 ghost use Rattle.piv_cli.specs.Ends.{IsRunEnd};
 ghost use Rattle.piv_cli.specs.Outputs.{Took, TookPart};

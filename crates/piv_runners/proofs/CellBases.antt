@@ -1,8 +1,8 @@
 -- The bases of one card more.
-use Rattle.std.proofs.Common.{◌≡◌, ℕ, zero, suc, ◌+◌, ◌<◌, List, [], ◌∷◌, ◌++◌, length, take, get_or, Some, refl, ap, subst, arith}
 use Rattle.std.specs.Prelude.{slice_get}
-use Rattle.card_cell.specs.declared.base.CellBase.{CellBase}
+use Rattle.std.proofs.Common.{◌≡◌, ℕ, zero, suc, ◌+◌, ◌<◌, List, [], ◌∷◌, ◌++◌, length, take, get_or, Some, refl, ap, subst, arith}
 use Rattle.scene_cards.specs.CardValues.{CardValue}
+use Rattle.card_cell.specs.declared.base.CellBase.{CellBase}
 use Rattle.scene_cells.specs.Raised.{cell_base, cell_bases}
 
 more : (turns : ℕ) (cards : List CardValue) (losses : List ℕ) (k : ℕ) (base : CellBase) → length losses ≡ length cards → k < length losses

@@ -1,18 +1,18 @@
 -- What stands on the devices after a run in threads.
 use Rattle.std.proofs.Common.{◌≡◌, ℕ, List, [], ◌++◌, length, map, Result, Ok, IfOk, subst}
-use Rattle.nvm_device.specs.Device.{DeviceState}
 use Rattle.piv_model.specs.declared.answers.ApiAnswer.{ApiAnswer}
 use Rattle.piv_model.specs.declared.store.Store.{Ghosts}
 use Rattle.piv_model.specs.Entries.{Past}
+use Rattle.nvm_device.specs.Device.{DeviceState}
 use Rattle.piv_rules.specs.Acts.{Records}
 use Rattle.block_store.specs.Blocks.{block_form}
 use Rattle.block_store.specs.Devices.{OthersStand}
+use Rattle.client_api.specs.Playing.{Move}
+use Rattle.piv_scene.specs.SceneValues.{SceneValue}
 use Rattle.card_cell.specs.declared.base.CellBase.{CellBase}
 use Rattle.card_cell.specs.declared.cell.CardCell.{CardCell}
 use Rattle.card_cell.specs.Cells.{history_of}
 use Rattle.card_cell.specs.Holds.{IsHeld}
-use Rattle.client_api.specs.Playing.{Move}
-use Rattle.piv_scene.specs.SceneValues.{SceneValue}
 use Rattle.scene_cells.specs.Lowered.{AreLeft}
 use Rattle.scene_cells.specs.Raised.{AreRaised, cell_bases}
 use Rattle.scene_cells.specs.Turns.{scene_turns}

@@ -3,22 +3,22 @@ use Rattle.std.proofs.Common.{◌≡◌, ℕ, List, length, ap, subst, ◌∙◌
 use Rattle.std.proofs.lemmas.List.{length-map}
 use Rattle.piv_model.specs.declared.answers.ApiAnswer.{ApiAnswer}
 use Rattle.piv_model.specs.declared.store.Store.{Ghosts}
-use Rattle.piv_rules.specs.Acts.{Records}
 use Rattle.script_line.specs.Scripts.{ScriptData}
+use Rattle.piv_rules.specs.Acts.{Records}
 use Rattle.block_store.specs.Blocks.{block_form}
-use Rattle.card_cell.specs.declared.base.CellBase.{CellBase}
-use Rattle.card_cell.specs.declared.cell.CardCell.{CardCell}
 use Rattle.client_api.specs.Playing.{Move}
 use Rattle.client_api.specs.Readers.{Names}
-use Rattle.cell_port.specs.Owned.{HoldAll}
-use Rattle.cell_port.specs.OwnedLaws.{found}
 use Rattle.piv_scene.specs.SceneValues.{SceneValue}
+use Rattle.scene_readers.specs.SceneNames.{names_of}
+use Rattle.card_cell.specs.declared.base.CellBase.{CellBase}
+use Rattle.card_cell.specs.declared.cell.CardCell.{CardCell}
 use Rattle.script_runs.specs.Runs.{Scripts}
 use Rattle.script_runs.specs.Turns.{AllPlayable, HasTurns, all_turns}
+use Rattle.cell_port.specs.Owned.{HoldAll}
+use Rattle.cell_port.specs.OwnedLaws.{found}
 use Rattle.threaded_runs.specs.AtOnce.{HasRun, card_turns, turns_with}
 use Rattle.scene_cells.specs.Raised.{cell_bases}
 use Rattle.scene_cells.specs.Turns.{scene_turns}
-use Rattle.scene_readers.specs.SceneNames.{names_of}
 use Rattle.scene_runs.specs.CardRuns.{HaveTurns, lines_of}
 use Rattle.scene_runs.proofs.Holding.{have-turns, length-bases}
 use Rattle.scene_runs.proofs.Lines.{turns-of-all}

@@ -1,19 +1,19 @@
 -- What scripts in threads did on the cells of a scene, and what these left (this project's own).
 use Rattle.std.specs.Prelude.{◌<◌, ℕ, List, length}
-use Rattle.nvm_device.specs.Device.{DeviceState}
 use Rattle.piv_model.specs.declared.answers.ApiAnswer.{ApiAnswer}
 use Rattle.piv_model.specs.declared.store.Store.{Ghosts}
 use Rattle.piv_model.specs.Entries.{Past}
+use Rattle.nvm_device.specs.Device.{DeviceState}
 use Rattle.piv_rules.specs.Acts.{Records}
 use Rattle.block_store.specs.Blocks.{block_form}
-use Rattle.card_cell.specs.declared.base.CellBase.{CellBase}
-use Rattle.card_cell.specs.declared.cell.CardCell.{CardCell}
-use Rattle.cell_port.specs.Owned.{HoldAll}
 use Rattle.client_api.specs.Playing.{Move}
 use Rattle.piv_scene.specs.SceneValues.{SceneValue}
+use Rattle.scene_readers.specs.SceneNames.{names_of}
+use Rattle.card_cell.specs.declared.base.CellBase.{CellBase}
+use Rattle.card_cell.specs.declared.cell.CardCell.{CardCell}
 use Rattle.script_runs.specs.Shares.{SharesOut}
 use Rattle.script_runs.specs.Turns.{NeverFull}
-use Rattle.scene_readers.specs.SceneNames.{names_of}
+use Rattle.cell_port.specs.Owned.{HoldAll}
 use Rattle.scene_runs.specs.CardRuns.{AreLeftBy, lines_of}
 
 -- the scripts have shared out the records of all cards, each plays its share to its end, and no turn was answered Full

@@ -1,14 +1,14 @@
 -- What a run of a scene did whose scripts ran in threads of their own (this project's own).
 use Rattle.std.specs.Prelude.{◌<◌, ℕ, List, length}
-use Rattle.nvm_device.specs.Device.{DeviceState}
 use Rattle.piv_model.specs.declared.answers.ApiAnswer.{ApiAnswer}
 use Rattle.piv_model.specs.Entries.{Past}
+use Rattle.nvm_device.specs.Device.{DeviceState}
 use Rattle.piv_rules.specs.Acts.{Records}
 use Rattle.client_api.specs.Playing.{Move}
 use Rattle.piv_scene.specs.SceneValues.{SceneValue}
+use Rattle.scene_readers.specs.SceneNames.{names_of}
 use Rattle.script_runs.specs.Shares.{SharesOut}
 use Rattle.script_runs.specs.Turns.{NeverFull}
-use Rattle.scene_readers.specs.SceneNames.{names_of}
 use Rattle.scene_runs.specs.CardRuns.{CardsRan, lines_of}
 
 -- The scripts of a scene that ran in threads: they have shared out the records of all cards, each plays its share to

@@ -2,13 +2,13 @@
 ghost use Rattle.std.specs.Prelude.{◌≡◌, ◌≤◌, ℕ, [], List, length, map, vec_capacity, IfOk};
 ghost use Rattle.piv_rules.specs.Acts.{Records};
 ghost use Rattle.block_store.specs.Blocks.{block_form};
-ghost use Rattle.cell_port.specs.Owned.{HoldAll};
 ghost use Rattle.client_api.specs.Players.{AreNamesOn};
 ghost use Rattle.client_api.specs.Playing.{Move};
+ghost use Rattle.scene_readers.specs.SceneNames.{names_of};
 ghost use Rattle.script_runs.specs.Progress.{AreBegun, scripts_of};
+ghost use Rattle.cell_port.specs.Owned.{HoldAll};
 ghost use Rattle.scene_cells.specs.Raised.{cell_bases};
 ghost use Rattle.scene_cells.specs.Turns.{scene_turns};
-ghost use Rattle.scene_readers.specs.SceneNames.{names_of};
 ghost use Rattle.scene_runs.specs.CardRuns.{lines_of};
 ghost use Rattle.piv_runners.specs.Played.{PlayedOver};
 

@@ -1,19 +1,19 @@
 -- What a new cell is to its card, by the device that it stands on.
-use Rattle.std.proofs.Common.{◌≡◌, ℕ, ◌≤◌, ◌<◌, ◌+◌, ◌-◌, ◌^◌, true, false, List, [], ◌∷◌, length, Some, None, IfSome, refl, ap, sym, ◌∙◌, subst, arith}
 use Rattle.std.specs.Prelude.{Option, option_map, is_some, min}
+use Rattle.std.proofs.Common.{◌≡◌, ℕ, ◌≤◌, ◌<◌, ◌+◌, ◌-◌, ◌^◌, true, false, List, [], ◌∷◌, length, Some, None, IfSome, refl, ap, sym, ◌∙◌, subst, arith}
 use Rattle.std.proofs.lemmas.List.{length-map}
 use Rattle.power_loss.specs.declared.loss.Loss.{Loss}
 use Rattle.power_loss.specs.Plans.{write_numbers, whole}
 use Rattle.power_loss.specs.Power.{Power}
 use Rattle.power_loss.specs.Told.{Each}
-use Rattle.nvm_device.specs.declared.loss.How.{How}
-use Rattle.nvm_device.specs.Device.{DeviceState}
-use Rattle.nvm_device.specs.UnderPlan.{due_under, under_plan, unspoiled}
 use Rattle.piv_model.specs.declared.start.Start.{Start}
 use Rattle.piv_model.specs.declared.store.Store.{Ghosts}
 use Rattle.piv_model.specs.Memory.{Memory}
 use Rattle.piv_model.specs.Starts.{memory_of_start}
 use Rattle.piv_model.specs.Stores.{StoreState}
+use Rattle.nvm_device.specs.declared.loss.How.{How}
+use Rattle.nvm_device.specs.Device.{DeviceState}
+use Rattle.nvm_device.specs.UnderPlan.{due_under, under_plan, unspoiled}
 use Rattle.card_image.specs.Images.{IsImage, StandsOn, memory_of}
 use Rattle.card_image.specs.Laying.{Personal}
 use Rattle.block_store.specs.Blocks.{block_form}

@@ -1,22 +1,22 @@
 -- What a device holds, by what its cell held.
-use Rattle.std.proofs.Common.{◌≡◌, ℕ, ◌≤◌, ◌<◌, ◌+◌, ◌-◌, ◌^◌, Bool, true, List, length, Some, None, IfSome, ap, sym, ◌∙◌, subst, arith}
 use Rattle.std.specs.Prelude.{Option, option_map, is_some, IsSome, min}
+use Rattle.std.proofs.Common.{◌≡◌, ℕ, ◌≤◌, ◌<◌, ◌+◌, ◌-◌, ◌^◌, Bool, true, List, length, Some, None, IfSome, ap, sym, ◌∙◌, subst, arith}
 use Rattle.power_loss.specs.Plans.{PlanState}
-use Rattle.nvm_device.specs.declared.loss.How.{How}
-use Rattle.nvm_device.specs.Device.{DeviceState}
-use Rattle.nvm_device.specs.UnderPlan.{NeverLoses, under_plan}
 use Rattle.piv_model.specs.declared.store.Store.{Ghosts}
 use Rattle.piv_model.specs.Base.{Base}
 use Rattle.piv_model.specs.Memory.{Memory}
 use Rattle.piv_model.specs.Stores.{StoreState}
+use Rattle.nvm_device.specs.declared.loss.How.{How}
+use Rattle.nvm_device.specs.Device.{DeviceState}
+use Rattle.nvm_device.specs.UnderPlan.{NeverLoses, under_plan}
 use Rattle.piv_rules.specs.Acts.{Records, entries}
 use Rattle.piv_rules.specs.Legal.{IsLegal}
 use Rattle.piv_rules.specs.Plans.{ArePlanned, IsPlanOf}
 use Rattle.piv_rules.specs.Turns.{Runs}
 use Rattle.piv_rules.proofs.Legality.{IsLegal-runs}
-use Rattle.card_app.specs.Left.{Left}
 use Rattle.card_image.specs.Images.{IsImage, StandsOn, memory_of}
 use Rattle.block_store.specs.Blocks.{block_form}
+use Rattle.card_app.specs.Left.{Left}
 use Rattle.card_cell.specs.declared.base.CellBase.{CellBase}
 use Rattle.card_cell.specs.declared.cell.CardCell.{CardCell}
 use Rattle.card_cell.specs.Cells.{CellStandsFor, store_in, store_of}

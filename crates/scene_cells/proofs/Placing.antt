@@ -1,18 +1,18 @@
 -- Cells made one after the other, and devices in their places.
-use Rattle.std.proofs.Common.{◌≡◌, inl, inr, ℕ, zero, suc, ◌+◌, ◌-◌, ◌<◌, ◌≤◌, List, [], ◌∷◌, ◌++◌, length, drop, map, Some, refl, sym, ap, subst, ◌∙◌, arith, length-append, length-drop}
 use Rattle.std.specs.Prelude.{All, slice_get, option_map}
+use Rattle.std.proofs.Common.{◌≡◌, inl, inr, ℕ, zero, suc, ◌+◌, ◌-◌, ◌<◌, ◌≤◌, List, [], ◌∷◌, ◌++◌, length, drop, map, Some, refl, sym, ap, subst, ◌∙◌, arith, length-append, length-drop}
 use Rattle.std.proofs.lemmas.List.{length-map, drop-drop}
 use Rattle.std.proofs.lemmas.Option.{get_or_from_slice_get}
-use Rattle.nvm_device.specs.Device.{DeviceState}
+use Rattle.power_loss.specs.declared.loss.Loss.{Loss}
 use Rattle.piv_model.specs.declared.start.Start.{Start}
 use Rattle.piv_model.specs.declared.store.Store.{Ghosts}
 use Rattle.piv_model.specs.Starts.{memory_of_start}
+use Rattle.nvm_device.specs.Device.{DeviceState}
+use Rattle.nvm_device.specs.declared.loss.How.{How}
+use Rattle.piv_rules.specs.Acts.{Records}
 use Rattle.block_store.specs.Devices.{IsFaulted, IsReady}
 use Rattle.scene_cards.specs.CardValues.{CardValue}
-use Rattle.power_loss.specs.declared.loss.Loss.{Loss}
-use Rattle.nvm_device.specs.declared.loss.How.{How}
 use Rattle.card_cell.specs.declared.cell.CardCell.{CardCell}
-use Rattle.piv_rules.specs.Acts.{Records}
 use Rattle.card_cell.specs.declared.base.CellBase.{CellBase}
 use Rattle.scene_cells.specs.Lowered.{AreLeft, IsLeft}
 use Rattle.scene_cells.specs.declared.fault.RunFault.{RunFault}

@@ -1,8 +1,8 @@
 -- The device of a cell over a device under a plan.
+use Rattle.piv_model.specs.declared.store.Store.{Ghosts}
 use Rattle.nvm_device.specs.declared.device.Nvm.{Ghosts as NvmGhosts}
 use Rattle.nvm_device.specs.declared.fused.Fused.{Fused}
 use Rattle.nvm_device.specs.Fused.{inner_of}
-use Rattle.piv_model.specs.declared.store.Store.{Ghosts}
 use Rattle.card_image.specs.declared.objects.Objects.{Ghosts as ObjectsGhosts}
 use Rattle.card_image.specs.declared.image.Image.{Image}
 use Rattle.card_image.specs.Device.{device_of}

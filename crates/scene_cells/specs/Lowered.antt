@@ -1,15 +1,15 @@
 -- What stands on a device after the records of its cell (this project's own).
 use Rattle.std.specs.Prelude.{◌≡◌, ◌≤◌, ◌<◌, ◌+◌, ◌-◌, ◌^◌, ℕ, List, length, Some, IfSome, slice_get}
+use Rattle.piv_model.specs.Entries.{Past}
 use Rattle.nvm_device.specs.Device.{DeviceState}
 use Rattle.nvm_device.specs.UnderPlan.{NeverLoses}
-use Rattle.piv_model.specs.Entries.{Past}
 use Rattle.piv_rules.specs.Acts.{Records, entries}
 use Rattle.piv_rules.specs.Legal.{IsLegal}
 use Rattle.piv_rules.specs.Plans.{ArePlanned}
 use Rattle.piv_rules.specs.Turns.{Runs}
-use Rattle.card_app.specs.Left.{Left}
 use Rattle.block_store.specs.Blocks.{block_form}
 use Rattle.block_store.specs.Devices.{Spells}
+use Rattle.card_app.specs.Left.{Left}
 use Rattle.card_cell.specs.declared.base.CellBase.{CellBase}
 use Rattle.card_cell.specs.Holds.{base_of}
 use Rattle.card_cell.specs.Losses.{loss_count}

@@ -2,11 +2,11 @@
 use Rattle.std.specs.Prelude.{◌≡◌, ◌⊎◌, ◌<◌, ◌^◌, ℕ, true, false, List, [], ◌∷◌, length, Some, IfSome, slice_get}
 use Rattle.power_loss.specs.declared.loss.Loss.{Loss}
 use Rattle.power_loss.specs.Plans.{write_numbers}
-use Rattle.nvm_device.specs.declared.loss.How.{How}
-use Rattle.nvm_device.specs.Device.{DeviceState}
 use Rattle.piv_model.specs.declared.start.Start.{Start}
 use Rattle.piv_model.specs.declared.store.Store.{Ghosts}
 use Rattle.piv_model.specs.Starts.{memory_of_start}
+use Rattle.nvm_device.specs.declared.loss.How.{How}
+use Rattle.nvm_device.specs.Device.{DeviceState}
 use Rattle.card_image.specs.Images.{memory_of}
 use Rattle.card_image.specs.Laying.{Done, Personal}
 use Rattle.block_store.specs.Blocks.{block_form}

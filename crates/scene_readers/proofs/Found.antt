@@ -1,21 +1,21 @@
 -- A name is found exactly where a card or a reader of the scene has it.
-use Rattle.std.proofs.Common.{◌≡◌, ℕ, ◌+◌, ◌<◌, ◌≤◌, Bool, true, false, List, [], ◌∷◌, ◌++◌, length, Option, Some, None, refl, sym, ap, ◌∙◌, subst, arith}
 use Rattle.std.specs.Prelude.{◌||◌, is_some, IsSome, if◌then◌else◌}
 use Rattle.std.specs.List.{AllByRecursion}
 use Rattle.std.specs.Str.{bytes_eq}
+use Rattle.std.proofs.Common.{◌≡◌, ℕ, ◌+◌, ◌<◌, ◌≤◌, Bool, true, false, List, [], ◌∷◌, ◌++◌, length, Option, Some, None, refl, sym, ap, ◌∙◌, subst, arith}
 use Rattle.std.proofs.lemmas.List.Folds.{list_any-append}
 use Rattle.piv_model.specs.declared.kinds.Interface.{Interface}
 use Rattle.piv_model.specs.declared.kinds.Interface.TheVariants.{Contact, Contactless}
 use Rattle.script_line.specs.declared.line.Line.{Line}
 use Rattle.script_line.specs.declared.line.Line.TheVariants as line
 use Rattle.script_line.specs.Scripts.{ScriptData}
+use Rattle.client_api.specs.Readers.{NamedReader, Names, reader_of, card_of}
+use Rattle.client_api.specs.Players.{AreNamesOn}
 use Rattle.scene_table.specs.Names.{is_among}
 use Rattle.scene_cards.specs.Cards.{named}
 use Rattle.scene_cards.specs.CardValues.{CardValue}
 use Rattle.piv_scene.specs.Scripts.{names_known}
 use Rattle.piv_scene.specs.SceneValues.{names_of_cards, names_of_readers, IsScriptOf}
-use Rattle.client_api.specs.Readers.{NamedReader, Names, reader_of, card_of}
-use Rattle.client_api.specs.Players.{AreNamesOn}
 use Rattle.scene_readers.specs.SceneNames.{reader_if, readers_at, readers_from, cards_from, names_of, IsNamed}
 
 among-append : (xs ys : List (List ℕ)) (name : List ℕ) → is_among (xs ++ ys) name ≡ (is_among xs name || is_among ys name)

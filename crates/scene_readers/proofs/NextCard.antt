@@ -1,18 +1,18 @@
 -- A card behind others, whose names none of those has.
-use Rattle.std.proofs.Common.{◌≡◌, ℕ, ◌+◌, ◌≤◌, Bool, false, List, [], ◌∷◌, ◌++◌, length, take, drop, Option, Some, None, refl, sym, ap, ◌∙◌, subst, arith}
 use Rattle.std.specs.Prelude.{◌||◌, is_some, IfSome, slice_get, option_map, Result, Ok, Err, OnOk}
 use Rattle.std.specs.List.{AllByRecursion, IsDistinct}
 use Rattle.std.specs.Str.{bytes_eq}
+use Rattle.std.proofs.Common.{◌≡◌, ℕ, ◌+◌, ◌≤◌, Bool, false, List, [], ◌∷◌, ◌++◌, length, take, drop, Option, Some, None, refl, sym, ap, ◌∙◌, subst, arith}
 use Rattle.std.proofs.lemmas.List.{append_assoc, append-nil, map-append, drop_more, take_more, take-append-drop, take_all, length-take-le}
 use Rattle.std.proofs.lemmas.List.Concat.{flat_map-append}
 use Rattle.std.proofs.lemmas.Option.{get_or_from_slice_get, slice_get_within}
 use Rattle.piv_model.specs.declared.kinds.Interface.TheVariants.{Contact, Contactless}
 use Rattle.piv_model.specs.declared.no_memory.NoMemory.{NoMemory}
+use Rattle.client_api.specs.Readers.{NamedReader, NamedCard, Names, reader_of, card_of}
 use Rattle.scene_table.specs.Names.{is_among}
 use Rattle.scene_cards.specs.Cards.{named}
 use Rattle.scene_cards.specs.CardValues.{CardValue, reader_of as side_of}
 use Rattle.piv_scene.specs.SceneValues.{names_of_cards, names_of_readers}
-use Rattle.client_api.specs.Readers.{NamedReader, NamedCard, Names, reader_of, card_of}
 use Rattle.scene_readers.specs.SceneNames.{reader_if, readers_at, readers_from, cards_from, names_of}
 use Rattle.scene_readers.proofs.Found.{reader-append, if-found, reader-found, card-found, none_of}
 

@@ -4,8 +4,8 @@ use Rattle.piv_model.specs.declared.kinds.Interface.{Interface}
 use Rattle.piv_model.specs.declared.kinds.Interface.TheVariants.{Contact, Contactless}
 use Rattle.script_line.specs.declared.line.Line.{Line}
 use Rattle.script_line.specs.declared.line.Line.TheVariants.{Reset, Cut, Power}
-use Rattle.scene_cards.specs.CardValues.{CardValue}
 use Rattle.client_api.specs.Readers.{NamedReader, NamedCard, Names, reader_of, card_of}
+use Rattle.scene_cards.specs.CardValues.{CardValue}
 
 -- the reader of an interface of a card, if it has one
 abbrev pub reader_if : ℕ → Interface → Option (List ℕ) → List NamedReader

@@ -1,16 +1,16 @@
 -- Raised cells hold no record, each over the base of its card.
-use Rattle.std.proofs.Common.{◌≡◌, ℕ, zero, suc, ◌≤◌, List, [], ◌∷◌, length, Some, refl, sym, ap, subst, ◌∙◌, arith}
 use Rattle.std.specs.Prelude.{slice_get}
+use Rattle.std.proofs.Common.{◌≡◌, ℕ, zero, suc, ◌≤◌, List, [], ◌∷◌, length, Some, refl, sym, ap, subst, ◌∙◌, arith}
 use Rattle.std.proofs.lemmas.Option.{slice_get_within}
-use Rattle.nvm_device.specs.Device.{DeviceState}
 use Rattle.piv_model.specs.declared.store.Store.{Ghosts}
+use Rattle.nvm_device.specs.Device.{DeviceState}
 use Rattle.block_store.specs.Blocks.{block_form}
+use Rattle.scene_cards.specs.CardValues.{CardValue}
 use Rattle.card_cell.specs.declared.base.CellBase.{CellBase}
 use Rattle.card_cell.specs.declared.cell.CardCell.{CardCell}
 use Rattle.card_cell.specs.Holds.{IsHeld}
 use Rattle.cell_port.specs.Owned.{HoldAll}
 use Rattle.cell_port.specs.OwnedLaws.{found}
-use Rattle.scene_cards.specs.CardValues.{CardValue}
 use Rattle.scene_cells.specs.Raised.{AreRaised, cell_base, cell_bases}
 use Rattle.scene_runs.specs.CardRuns.{HaveTurns}
 

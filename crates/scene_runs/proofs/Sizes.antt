@@ -1,15 +1,15 @@
 -- Devices keep their size under every answer.
-use Rattle.std.proofs.Common.{◌≡◌, ℕ, ◌<◌, ◌≤◌, ◌+◌, ◌-◌, inl, inr, ⊎_elim, Option, List, ◌++◌, length, map, drop, Some, sym, ap, subst, ◌∙◌, arith}
 use Rattle.std.specs.Prelude.{slice_get}
 use Rattle.std.specs.List.{All}
+use Rattle.std.proofs.Common.{◌≡◌, ℕ, ◌<◌, ◌≤◌, ◌+◌, ◌-◌, inl, inr, ⊎_elim, Option, List, ◌++◌, length, map, drop, Some, sym, ap, subst, ◌∙◌, arith}
 use Rattle.std.proofs.lemmas.Bool.{cases_lt}
 use Rattle.std.proofs.lemmas.List.Elements.{All-append, All-map}
 use Rattle.std.proofs.lemmas.Option.{get_or_from_slice_get, slice_get_within}
-use Rattle.nvm_device.specs.Device.{DeviceState}
 use Rattle.piv_model.specs.declared.start.Start.{Start}
+use Rattle.nvm_device.specs.Device.{DeviceState}
 use Rattle.block_store.specs.Devices.{IsReady}
-use Rattle.cell_port.specs.OwnedLaws.{found}
 use Rattle.scene_cards.specs.CardValues.{CardValue}
+use Rattle.cell_port.specs.OwnedLaws.{found}
 use Rattle.scene_cells.specs.declared.fault.RunFault.{RunFault}
 use Rattle.scene_cells.specs.Raised.{AreBack, IsBack, IsSpared}
 use Rattle.scene_cells.proofs.Places.{place-in-drop}

@@ -1,22 +1,22 @@
 -- What stands on the devices after a run.
-use Rattle.std.proofs.Common.{◌≡◌, ℕ, zero, suc, ◌≤◌, ◌+◌, List, [], ◌∷◌, ◌++◌, length, map, drop, Some, Result, Ok, Err, OnOk, IfOk, sym, ap, subst, ◌∙◌, arith}
 use Rattle.std.specs.Prelude.{slice_get}
+use Rattle.std.proofs.Common.{◌≡◌, ℕ, zero, suc, ◌≤◌, ◌+◌, List, [], ◌∷◌, ◌++◌, length, map, drop, Some, Result, Ok, Err, OnOk, IfOk, sym, ap, subst, ◌∙◌, arith}
 use Rattle.std.proofs.lemmas.List.{length-map, length-append, length-drop, append-nil, drop_at}
 use Rattle.std.proofs.lemmas.Option.{slice_get_within}
-use Rattle.nvm_device.specs.Device.{DeviceState}
 use Rattle.piv_model.specs.declared.store.Store.{Ghosts}
 use Rattle.piv_model.specs.Entries.{Past}
+use Rattle.nvm_device.specs.Device.{DeviceState}
 use Rattle.piv_rules.specs.Acts.{Records}
 use Rattle.block_store.specs.Blocks.{block_form}
 use Rattle.block_store.specs.Devices.{OthersStand}
+use Rattle.scene_cards.specs.CardValues.{CardValue}
+use Rattle.piv_scene.specs.SceneValues.{SceneValue}
 use Rattle.card_cell.specs.declared.base.CellBase.{CellBase}
 use Rattle.card_cell.specs.declared.cell.CardCell.{CardCell}
 use Rattle.card_cell.specs.Cells.{history_of}
 use Rattle.card_cell.specs.Holds.{IsHeld}
 use Rattle.cell_port.specs.Owned.{HoldAll}
 use Rattle.cell_port.specs.OwnedLaws.{found}
-use Rattle.scene_cards.specs.CardValues.{CardValue}
-use Rattle.piv_scene.specs.SceneValues.{SceneValue}
 use Rattle.scene_cells.specs.Lowered.{AreLeft, IsLeft}
 use Rattle.scene_cells.specs.Raised.{AreRaised, cell_base, cell_bases}
 use Rattle.scene_cells.specs.Turns.{scene_turns}

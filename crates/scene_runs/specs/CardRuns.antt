@@ -1,13 +1,13 @@
 -- What a run of a scene made of its cards, and of their devices (this project's own).
 use Rattle.std.specs.Prelude.{◌≡◌, ℕ, List, length, map, Some, slice_get}
-use Rattle.nvm_device.specs.Device.{DeviceState}
 use Rattle.piv_model.specs.Entries.{Past}
-use Rattle.piv_rules.specs.Acts.{Records, entries}
 use Rattle.script_line.specs.Scripts.{ScriptData}
+use Rattle.nvm_device.specs.Device.{DeviceState}
+use Rattle.piv_rules.specs.Acts.{Records, entries}
 use Rattle.block_store.specs.Devices.{OthersStand}
-use Rattle.card_cell.specs.declared.base.CellBase.{CellBase}
 use Rattle.scene_cards.specs.CardValues.{CardValue}
 use Rattle.piv_scene.specs.SceneValues.{SceneValue}
+use Rattle.card_cell.specs.declared.base.CellBase.{CellBase}
 use Rattle.script_runs.specs.Runs.{Scripts}
 use Rattle.scene_cells.specs.Lowered.{IsLeft}
 use Rattle.scene_cells.specs.Raised.{cell_base}

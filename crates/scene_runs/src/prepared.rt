@@ -1,9 +1,9 @@
 // What a run takes besides its cells.
 ghost use Rattle.std.specs.Prelude.{◌≡◌, ◌≤◌, [], length, vec_capacity, IfOk};
 ghost use Rattle.client_api.specs.Players.{AreNamesOn};
+ghost use Rattle.scene_readers.specs.SceneNames.{names_of};
 ghost use Rattle.script_runs.specs.Progress.{AreBegun, scripts_of};
 ghost use Rattle.script_runs.specs.Turns.{AllPlayable};
-ghost use Rattle.scene_readers.specs.SceneNames.{names_of};
 ghost use Rattle.scene_runs.specs.CardRuns.{lines_of};
 
 use client_api::{Player, Readers};

@@ -7,12 +7,12 @@ use Rattle.std.proofs.lemmas.Option.{slice_get_within, get_or_from_slice_get}
 use Rattle.std.proofs.lemmas.List.Sums.{sum_by_more, sum_by-take-le}
 use Rattle.piv_model.specs.declared.answers.ApiAnswer.{ApiAnswer}
 use Rattle.script_line.specs.declared.line.Line.{Line}
+use Rattle.script_line.specs.Playable.{ArePlayable}
 use Rattle.client_api.specs.Answers.{api_answer, handle_after}
 use Rattle.client_api.specs.Calls.{Asked, Call, Replies, sends}
 use Rattle.client_api.specs.Ports.{Log, records_of}
 use Rattle.client_api.specs.Readers.{Names}
 use Rattle.client_api.specs.Playing.{kept, name_of, Playing, playing, Plays, Had, NoTurn, Took, Filled, Move, HasAsked, heard, settled, with_own}
-use Rattle.script_line.specs.Playable.{ArePlayable}
 use Rattle.client_api.specs.Players.{line_turns}
 use Rattle.client_api.proofs.LineLaws.{lines_end}
 use Rattle.script_runs.specs.Runs.{Turn, Run, moves_of, log_of, Follows, AllPlay}

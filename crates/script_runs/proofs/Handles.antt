@@ -1,16 +1,16 @@
 -- A script's connections are its own: its handles come from its own connects alone.
-use Rattle.std.proofs.Common.{◌≡◌, ◌⊎◌, inl, inr, ℕ, zero, suc, ◌*◌, Bool, true, false, cond, List, [], ◌∷◌, ◌++◌, length, drop, Option, Some, None, sym, refl, subst}
 use Rattle.std.specs.Prelude.{IfSome, IsSome, is_some, nat_lt, option_and_then, slice_get}
 use Rattle.std.specs.List.{AllByRecursion}
 use Rattle.std.specs.Str.{bytes_eq}
+use Rattle.std.proofs.Common.{◌≡◌, ◌⊎◌, inl, inr, ℕ, zero, suc, ◌*◌, Bool, true, false, cond, List, [], ◌∷◌, ◌++◌, length, drop, Option, Some, None, sym, refl, subst}
 use Rattle.piv_model.specs.declared.kinds.Interface.{Interface}
 use Rattle.piv_model.specs.Objects.{place_of_oid}
-use Rattle.piv_objects.specs.Authenticators.{Credential}
-use Rattle.piv_rules.specs.Acts as acts
-use Rattle.piv_rules.specs.Acts.{CardAct, CardAnswer}
-use Rattle.card_acts.specs.Acts.{Heard}
 use Rattle.script_line.specs.declared.line.Line.{Line}
 use Rattle.script_line.specs.declared.line.Line.TheVariants as line
+use Rattle.piv_rules.specs.Acts as acts
+use Rattle.piv_rules.specs.Acts.{CardAct, CardAnswer}
+use Rattle.piv_objects.specs.Authenticators.{Credential}
+use Rattle.card_acts.specs.Acts.{Heard}
 use Rattle.client_api.specs.Calls.{Handle, Call, Decided, Connect, Disconnect, Select, LogIn, LogOut, Get, Put, Crypt, Admin, Transmit, Switch, Replies, Asked, turn_of, sends, joined, goes_on, exchange, verify, piece}
 use Rattle.client_api.specs.Answers.{api_answer, connected, handle_after, handle_by, renewed}
 use Rattle.client_api.specs.Makers.{LogsIn, connect_to, get_at, put_at}

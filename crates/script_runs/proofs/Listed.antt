@@ -1,6 +1,6 @@
 -- Lists by places.
-use Rattle.std.proofs.Common.{◌≡◌, ◌≢◌, ◌∙◌, ℕ, zero, suc, ◌<◌, List, [], ◌∷◌, length, set, map, Option, Some, sym, refl, ap, arith}
 use Rattle.std.specs.Prelude.{slice_get, slice_index_or, option_map}
+use Rattle.std.proofs.Common.{◌≡◌, ◌≢◌, ◌∙◌, ℕ, zero, suc, ◌<◌, List, [], ◌∷◌, length, set, map, Option, Some, sym, refl, ap, arith}
 use Rattle.std.proofs.lemmas.Option.{slice_get-map, same_Some}
 
 module _ {A : Type 0} where

@@ -1,6 +1,6 @@
 -- Players that are made of scripts, and their answers that are handed over.
-use Rattle.std.proofs.Common.{◌≡◌, ℕ, List, [], ◌∷◌, map, Some, refl, ap}
 use Rattle.std.specs.Prelude.{slice_get}
+use Rattle.std.proofs.Common.{◌≡◌, ℕ, List, [], ◌∷◌, map, Some, refl, ap}
 use Rattle.script_line.specs.declared.line.Line.{Line}
 use Rattle.script_line.specs.Scripts.{ScriptData}
 use Rattle.script_line.specs.Playable.{ArePlayable}

@@ -1,6 +1,6 @@
 -- The whole run.
-use Rattle.std.proofs.Common.{◌≡◌, ℕ, List, [], ◌++◌, length, ap, subst, append-nil}
 use Rattle.std.specs.Prelude.{reverse}
+use Rattle.std.proofs.Common.{◌≡◌, ℕ, List, [], ◌++◌, length, ap, subst, append-nil}
 use Rattle.script_line.specs.declared.line.Line.{Line}
 use Rattle.client_api.specs.Ports.{Log}
 use Rattle.client_api.specs.Readers.{Names}

@@ -1,8 +1,8 @@
 -- Laws of runs (this project's own).
 use Rattle.std.specs.Prelude.{◌≡◌, ◌<◌, ℕ, List, length, Some, slice_get}
 use Rattle.piv_model.specs.declared.answers.ApiAnswer.{ApiAnswer}
-use Rattle.piv_rules.specs.Acts.{Records}
 use Rattle.script_line.specs.declared.line.Line.{Line}
+use Rattle.piv_rules.specs.Acts.{Records}
 use Rattle.client_api.specs.Ports.{records_of, ArePlaces}
 use Rattle.client_api.specs.Readers.{Names}
 use Rattle.client_api.specs.Playing.{Move, Plays}

@@ -1,9 +1,9 @@
 -- A sharing-out of a run: which records of the cards each script has made (this project's own).
 use Rattle.std.specs.Prelude.{◌≡◌, ◌⊎◌, ℕ, ◌<◌, List, [], ◌∷◌, length, reverse, IfSome, Option, Some, None, slice_get}
 use Rattle.piv_model.specs.declared.answers.ApiAnswer.{ApiAnswer}
+use Rattle.script_line.specs.declared.line.Line.{Line}
 use Rattle.piv_rules.specs.Acts.{CardAct, CardRecord, Records}
 use Rattle.piv_rules.specs.Acts as acts
-use Rattle.script_line.specs.declared.line.Line.{Line}
 use Rattle.client_api.specs.Ports.{Log}
 use Rattle.client_api.specs.Readers.{Names}
 use Rattle.client_api.specs.Playing.{Move, playing, Plays, with_own}

@@ -1,9 +1,9 @@
 -- How many turns the scripts of a run make at most, and when no turn is answered Full (this project's own).
 use Rattle.std.specs.Prelude.{◌≡◌, ℕ, ◌≤◌, ◌<◌, List, [], ◌∷◌, length, map, sum_by, Some, slice_get}
 use Rattle.script_line.specs.declared.line.Line.{Line}
+use Rattle.script_line.specs.Playable.{ArePlayable}
 use Rattle.client_api.specs.Ports.{Log, records_of}
 use Rattle.client_api.specs.Playing.{Had, NoTurn, Took, Filled, Move}
-use Rattle.script_line.specs.Playable.{ArePlayable}
 use Rattle.client_api.specs.Players.{line_turns}
 use Rattle.script_runs.specs.Runs.{Run, Scripts}
 

@@ -1,6 +1,6 @@
 -- The first passes as they were made, and the passes that are dealt from them.
-use Rattle.std.proofs.Common.{◌≡◌, ◌∙◌, ℕ, List, [], map, Some, refl, sym, ap, subst, arith}
 use Rattle.std.specs.List.{slice_get}
+use Rattle.std.proofs.Common.{◌≡◌, ◌∙◌, ℕ, List, [], map, Some, refl, sym, ap, subst, arith}
 use Rattle.std.proofs.lemmas.List.{length-map}
 use Rattle.std.proofs.lemmas.Option.{slice_get_within}
 use Rattle.turnstile.specs.Known.{IsPassOf, first_pass, split_off}

@@ -2,11 +2,11 @@
 use Rattle.std.proofs.Common.{◌≡◌, ◌⊎◌, inl, inr, ℕ, ◌<◌, Bool, true, false, cond, eqb, List, [], ◌∷◌, ◌++◌, Some, refl, sym, ap, subst, eq-eqb, ne_eqb}
 use mathlib.Core.Logic.{dite}
 use native.Mathlib.Decide.{ℕ_discrete}
-use Rattle.piv_rules.specs.Acts.{CardRecord, Records}
 use Rattle.turnstile_rows.specs.Gathered.{Owns}
+use Rattle.piv_rules.specs.Acts.{CardRecord, Records}
 use Rattle.client_api.specs.Ports.{Log, AreInside}
-use Rattle.client_threads.specs.Passes.{owns_of}
 use Rattle.script_runs.specs.Shares.{record_at, AreThere, Has}
+use Rattle.client_threads.specs.Passes.{owns_of}
 
 owns_before : (xs : List (ℕ × CardRecord)) (e : ℕ × CardRecord) (place : ℕ) (r : CardRecord) → Owns xs place r → Owns (xs ++ e ∷ []) place r
 owns_before [] e place r o = absurd o

@@ -1,19 +1,19 @@
 -- Workers who have played their scripts, and what the passes then have.
-use Rattle.std.proofs.Common.{◌≡◌, ◌∙◌, ℕ, ◌<◌, Bool, false, List, length, map, replicate, All, Some, sym, ap, subst, arith}
 use Rattle.std.specs.Prelude.{slice_index_or}
 use Rattle.std.specs.List.{slice_get}
+use Rattle.std.proofs.Common.{◌≡◌, ◌∙◌, ℕ, ◌<◌, Bool, false, List, length, map, replicate, All, Some, sym, ap, subst, arith}
 use Rattle.std.proofs.lemmas.List.{length-map}
 use Rattle.std.proofs.lemmas.Option.{slice_get_within}
-use Rattle.piv_model.specs.declared.answers.ApiAnswer.{ApiAnswer}
 use Rattle.turnstile.specs.Known.{first_pass, split_off}
 use Rattle.turnstile_rows.specs.Rows.{ArePassesOf, AreOthers, AreRowsOf, with_out}
 use Rattle.turnstile_rows.specs.Gathered.{AreGathered}
 use Rattle.turnstile_rows.proofs.Lists.{at_mapped, at_replicate, within, map_map}
+use Rattle.piv_model.specs.declared.answers.ApiAnswer.{ApiAnswer}
 use Rattle.script_line.specs.declared.line.Line.{Line}
 use Rattle.client_api.specs.Readers.{Names}
 use Rattle.client_api.specs.Players.{Played}
-use Rattle.client_threads.specs.Passes.{CellGate, CellPass}
 use Rattle.script_runs.specs.Progress.{begun, AreBegun, scripts_of}
+use Rattle.client_threads.specs.Passes.{CellGate, CellPass}
 use Rattle.threaded_runs.specs.Workers.{IsHired, HasPlayed, PlayedOver}
 use Rattle.threaded_runs.specs.Shared.{AreShared}
 use Rattle.threaded_runs.proofs.Mapped.{mapped_at, index_at, index_is, Collected, collect}

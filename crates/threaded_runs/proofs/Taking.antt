@@ -1,35 +1,35 @@
 -- The records of closed turnstiles are shared out among the scripts.
-use Rattle.std.proofs.Common.{◌≡◌, ◌⊎◌, inl, inr, ◌∙◌, ℕ, ◌<◌, ◌≤◌, List, [], length, map, Option, Some, None, refl, sym, ap, subst, arith}
 use Rattle.std.specs.Prelude.{reverse, option_map}
 use Rattle.std.specs.List.{slice_get}
+use Rattle.std.proofs.Common.{◌≡◌, ◌⊎◌, inl, inr, ◌∙◌, ℕ, ◌<◌, ◌≤◌, List, [], length, map, Option, Some, None, refl, sym, ap, subst, arith}
 use Rattle.std.proofs.lemmas.List.{length-map, length-reverse, reverse-reverse}
 use Rattle.std.proofs.lemmas.Option.{slice_get_within, slice_get_past, slice_get-map}
-use Rattle.piv_model.specs.declared.store.Store.{Ghosts}
-use Rattle.piv_model.specs.declared.answers.ApiAnswer.{ApiAnswer}
-use Rattle.piv_rules.specs.Acts.{CardRecord, Records}
 use Rattle.turnstile.specs.Records.{placed}
 use Rattle.turnstile_rows.specs.Rows.{ArePassesOf, AreClosed, StandAtStart, bases_of}
 use Rattle.turnstile_rows.specs.Gathered.{Owns, HasAll, own_of, row_of, own_in}
 use Rattle.turnstile_rows.proofs.Lists.{at_mapped, within}
 use Rattle.turnstile_rows.proofs.Merged.{owns_placed, placed_owns}
+use Rattle.piv_model.specs.declared.store.Store.{Ghosts}
+use Rattle.piv_model.specs.declared.answers.ApiAnswer.{ApiAnswer}
 use Rattle.script_line.specs.declared.line.Line.{Line}
-use Rattle.card_cell.specs.declared.base.CellBase.{CellBase}
-use Rattle.card_cell.specs.declared.cell.CardCell.{CardCell}
-use Rattle.card_cell.specs.Holds.{IsHeld}
-use Rattle.cell_port.specs.Owned.{HoldAll}
+use Rattle.piv_rules.specs.Acts.{CardRecord, Records}
 use Rattle.client_api.specs.Ports.{AreInside}
 use Rattle.client_api.specs.Readers.{Names}
 use Rattle.client_api.specs.Playing.{Move, Plays}
 use Rattle.client_api.specs.Players.{Played}
-use Rattle.client_threads.specs.declared.held_cell.HeldCell.{HeldCell}
-use Rattle.client_threads.specs.Held.{cell_of, HoldsAll}
-use Rattle.client_threads.specs.Passes.{CellGate, CellPass, owns_of, seen_of, seen_at, turns_of, turns_at}
+use Rattle.card_cell.specs.declared.base.CellBase.{CellBase}
+use Rattle.card_cell.specs.declared.cell.CardCell.{CardCell}
+use Rattle.card_cell.specs.Holds.{IsHeld}
 use Rattle.script_runs.specs.Runs.{Scripts}
 use Rattle.script_runs.specs.Turns.{AllPlayable, HasTurns, FullHasCause, NeverFull, all_turns}
 use Rattle.script_runs.specs.Shares.{share_of, record_at, Has, IsTaker, PlaysOut, SharesOut}
 use Rattle.script_runs.proofs.Going.{full_stays}
 use Rattle.script_runs.proofs.Filling.{shares_never_fill}
 use Rattle.script_runs.proofs.Handles.{uses_its_own}
+use Rattle.client_threads.specs.declared.held_cell.HeldCell.{HeldCell}
+use Rattle.client_threads.specs.Held.{cell_of, HoldsAll}
+use Rattle.client_threads.specs.Passes.{CellGate, CellPass, owns_of, seen_of, seen_at, turns_of, turns_at}
+use Rattle.cell_port.specs.Owned.{HoldAll}
 use Rattle.threaded_runs.specs.Workers.{PlayedOver}
 use Rattle.threaded_runs.specs.Shared.{AreShared}
 use Rattle.threaded_runs.specs.AtOnce.{turns_with, card_turns, HasRun, StillHold}

@@ -3,14 +3,14 @@ use Rattle.std.specs.Prelude.{◌<◌, ℕ, List, length, Option, Some, None, sl
 use Rattle.piv_model.specs.declared.store.Store.{Ghosts}
 use Rattle.piv_model.specs.declared.answers.ApiAnswer.{ApiAnswer}
 use Rattle.piv_rules.specs.Acts.{Records}
-use Rattle.card_cell.specs.declared.base.CellBase.{CellBase}
-use Rattle.card_cell.specs.declared.cell.CardCell.{CardCell}
-use Rattle.cell_port.specs.Owned.{HoldAll}
 use Rattle.client_api.specs.Readers.{Names}
 use Rattle.client_api.specs.Playing.{Move}
+use Rattle.card_cell.specs.declared.base.CellBase.{CellBase}
+use Rattle.card_cell.specs.declared.cell.CardCell.{CardCell}
 use Rattle.script_runs.specs.Runs.{Scripts}
 use Rattle.script_runs.specs.Shares.{SharesOut}
 use Rattle.script_runs.specs.Turns.{AllPlayable, HasTurns, NeverFull, all_turns}
+use Rattle.cell_port.specs.Owned.{HoldAll}
 
 -- the turns of a card
 abbrev pub turns_with : Option CellBase → ℕ

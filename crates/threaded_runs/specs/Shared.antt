@@ -1,13 +1,13 @@
 -- What the passes have after all scripts were played (this project's own).
 use Rattle.std.specs.Prelude.{◌≡◌, ℕ, List, length, map, Some, slice_get}
-use Rattle.piv_model.specs.declared.answers.ApiAnswer.{ApiAnswer}
 use Rattle.turnstile_rows.specs.Gathered.{HasAll}
+use Rattle.piv_model.specs.declared.answers.ApiAnswer.{ApiAnswer}
 use Rattle.script_line.specs.declared.line.Line.{Line}
 use Rattle.client_api.specs.Readers.{Names}
 use Rattle.client_api.specs.Playing.{Move}
 use Rattle.client_api.specs.Players.{Played}
-use Rattle.client_threads.specs.Passes.{CellGate, CellPass}
 use Rattle.script_runs.specs.Runs.{Scripts}
+use Rattle.client_threads.specs.Passes.{CellGate, CellPass}
 use Rattle.threaded_runs.specs.Workers.{PlayedOver}
 
 -- Each script was played to its end over a row of passes, and has these answers. The first pass of each card has what

@@ -5,9 +5,9 @@ use Rattle.script_line.specs.declared.line.Line.{Line}
 use Rattle.client_api.specs.Readers.{Names}
 use Rattle.client_api.specs.Playing.{Move}
 use Rattle.client_api.specs.Players.{Played}
-use Rattle.client_threads.specs.Passes.{CellGate, CellPass, AreStill, StandsOwn, seen_at, turns_at}
 use Rattle.script_runs.specs.Alone.{PlaysAlone}
 use Rattle.script_runs.specs.Progress.{begun}
+use Rattle.client_threads.specs.Passes.{CellGate, CellPass, AreStill, StandsOwn, seen_at, turns_at}
 
 -- its player is at the beginning, and it has the passes that were dealt
 pub record IsHired (dealt : List CellPass) (player : Played) (passes : List CellPass) : Type 0 where

@@ -2,9 +2,9 @@
 ghost use Rattle.std.specs.Prelude.{◌≡◌, ◌≤◌, [], length, map, vec_capacity, IfOk, IfErr};
 ghost use Rattle.turnstile.specs.Known.{first_pass, most_out};
 ghost use Rattle.turnstile_rows.specs.Rows.{bases_of};
-ghost use Rattle.cell_port.specs.Owned.{HoldAll};
 ghost use Rattle.client_api.specs.Players.{AreNamesOn};
 ghost use Rattle.script_runs.specs.Progress.{AreBegun, scripts_of};
+ghost use Rattle.cell_port.specs.Owned.{HoldAll};
 ghost use Rattle.threaded_runs.specs.AtOnce.{HasRun, StillHold};
 
 use crate::cells::{hold, release};

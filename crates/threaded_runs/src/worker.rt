@@ -2,8 +2,8 @@
 ghost use Rattle.std.specs.Prelude.{◌≡◌, [], length};
 ghost use Rattle.turnstile_rows.specs.Rows.{ArePassesOf};
 ghost use Rattle.client_api.specs.Players.{AreNamesOn};
-ghost use Rattle.client_threads.specs.Passes.{StandsOwn};
 ghost use Rattle.script_runs.specs.Progress.{begun};
+ghost use Rattle.client_threads.specs.Passes.{StandsOwn};
 ghost use Rattle.threaded_runs.specs.Workers.{HasPlayed};
 
 use client_api::{Player, Readers};

@@ -1,15 +1,17 @@
-use Rattle.std.proofs.Common.{ℕ, Option, None, false, refl, sym, ap, subst, ◌∙◌}
 use Rattle.std.specs.Prelude.{is_some, IsSome}
+use Rattle.std.proofs.Common.{ℕ, List, Option, None, false, refl, sym, ap, subst, ◌∙◌}
 use Rattle.piv_model.specs.declared.kinds.Took.TheVariants.{Nothing}
 use Rattle.piv_model.specs.Commands.{CardCommand, command_of}
 use Rattle.piv_model.specs.Entries.{Call, Cut}
 use Rattle.piv_rules.specs.Acts.{entries, Exchange, Replied}
 use Rattle.card_app.specs.declared.card.Outcome.{Outcome}
 use Rattle.card_app.specs.declared.card.Outcome.TheVariants as outcome
-use Rattle.card_app.specs.After.{IsExchangedOn}
+use Rattle.card_app.specs.After.{IsExchangedOn, epoch_at}
 use Rattle.card_app.specs.Outcomes.{entry_by}
 use Rattle.card_app.specs.Stands.{held_card, state_of, store_state}
+use Rattle.card_cell.specs.declared.exchanging.Exchanged.{Exchanged}
 use Rattle.card_cell.specs.declared.exchanging.Exchanged.TheVariants as made
+use Rattle.card_cell.specs.Exchanged.{latest, answer_made, IsEntryOf}
 use Rattle.card_cell.proofs.NotedLaws.{noted, noted-stands, noted-plan, noted-due, noted-kind, bears, noted-counted, same-counted, kept-counted, lost-counted, some-is}
 use Rattle.card_cell.proofs.exchanging.exchange.Goals as goal
 
@@ -22,7 +24,7 @@ returns-in-Part-clause-noted g c =
 pub returns-in-Part-clause-stands : goal.returns-in-Part-clause-stands
 returns-in-Part-clause-stands g c B R known stands fresh next =
     let on = subst (λ (o : Outcome). IsExchangedOn g.S.Store.put_cost c.args.card.now c.exchange.follows.lender-at-none c.args.c c.args.bytes.now c.args.block.now o) c.in-Part.is (c.exchange.follows.holds-at-none.on c.requires.on) in
-    noted-stands c.exchange.follows.lender-at-none B R (Exchange c.args.c known c.args.bytes.now) _ (entry_by c.args.c c.args.block.now (state_of c.exchange.follows.lender-at-none).running outcome.Part) c.args.history.now c.push.new.self _ _ c.push.ensures refl (λ j. Replied (sym c.of.ensures j) 0x9000)
+    noted-stands c.exchange.follows.lender-at-none B R (Exchange c.args.c known c.args.bytes.now) _ (entry_by c.args.c c.args.block.now (state_of c.exchange.follows.lender-at-none).running outcome.Part) c.args.history.now c.push.new.self _ _ c.push.ensures refl (ap (λ (b : List ℕ). Replied b 0x9000) (sym c.of.ensures) ∙ ap (answer_made (epoch_at R c.args.c)) (sym c.without_command.ensures))
     (on.stands B R known stands fresh next)
 
 pub returns-in-Part-clause-plan : goal.returns-in-Part-clause-plan
@@ -38,7 +40,9 @@ returns-in-Part-clause-due g c B R stands next =
     (on.due B R stands next)
 
 pub returns-in-Part-clause-kind : goal.returns-in-Part-clause-kind
-returns-in-Part-clause-kind g c = noted-kind c.args.has_global (made.Replied c.of.result 0x9000 false None Nothing) _ c.args.history.now c.push.new.self c.push.ensures (refl, refl, refl)
+returns-in-Part-clause-kind g c =
+    subst (λ (o : Exchanged). IsEntryOf c.args.has_global o (latest c.push.new.self.past)) (sym c.without_command.ensures)
+    (noted-kind c.args.has_global (made.Replied c.of.result 0x9000 false None Nothing) _ c.args.history.now c.push.new.self c.push.ensures (refl, refl, refl))
 
 pub returns-in-Part-clause-counted : goal.returns-in-Part-clause-counted
 returns-in-Part-clause-counted g c =
@@ -71,7 +75,7 @@ returns-in-Call-clause-due g c B R stands next =
     (on.due B R stands next)
 
 pub returns-in-Call-clause-kind : goal.returns-in-Call-clause-kind
-returns-in-Call-clause-kind g c = noted-kind c.args.has_global (made.Replied c.of-body.result c.in-Call.last c.in-Call.drew c.comparison_in-compared.result c.came_by.result) _ c.args.history.now c.push-in-Call.new.self c.push-in-Call.ensures (refl, ap is_some c.borne.ensures ∙ bears c.in-Call.drew c.args.block.now, c.comparison_in-compared.ensures, c.came_by.ensures)
+returns-in-Call-clause-kind g c = noted-kind c.args.has_global (made.Replied c.of-body.result c.in-Call.last c.in-Call.drew c.comparison_in-compared.result c.took_by.result) _ c.args.history.now c.push-in-Call.new.self c.push-in-Call.ensures (refl, ap is_some c.borne.ensures ∙ bears c.in-Call.drew c.args.block.now, c.comparison_in-compared.ensures, c.took_by.ensures)
 
 pub returns-in-Call-clause-counted : goal.returns-in-Call-clause-counted
 returns-in-Call-clause-counted g c =
@@ -88,7 +92,7 @@ returns-in-Rest-clause-noted g c =
 pub returns-in-Rest-clause-stands : goal.returns-in-Rest-clause-stands
 returns-in-Rest-clause-stands g c B R known stands fresh next =
     let on = subst (λ (o : Outcome). IsExchangedOn g.S.Store.put_cost c.args.card.now c.exchange.follows.lender-at-none c.args.c c.args.bytes.now c.args.block.now o) c.in-Rest.is (c.exchange.follows.holds-at-none.on c.requires.on) in
-    noted-stands c.exchange.follows.lender-at-none B R (Exchange c.args.c known c.args.bytes.now) _ (entry_by c.args.c c.args.block.now (state_of c.exchange.follows.lender-at-none).running (outcome.Rest c.in-Rest.body c.in-Rest.last)) c.args.history.now c.push-in-Rest.new.self _ _ c.push-in-Rest.ensures refl (λ j. Replied (sym c.of-in-Rest.ensures j) c.in-Rest.last)
+    noted-stands c.exchange.follows.lender-at-none B R (Exchange c.args.c known c.args.bytes.now) _ (entry_by c.args.c c.args.block.now (state_of c.exchange.follows.lender-at-none).running (outcome.Rest c.in-Rest.body c.in-Rest.last)) c.args.history.now c.push-in-Rest.new.self _ _ c.push-in-Rest.ensures refl (ap (λ (b : List ℕ). Replied b c.in-Rest.last) (sym c.of-in-Rest.ensures) ∙ ap (answer_made (epoch_at R c.args.c)) (sym c.without_command-in-Rest.ensures))
     (on.stands B R known stands fresh next)
 
 pub returns-in-Rest-clause-plan : goal.returns-in-Rest-clause-plan
@@ -104,7 +108,9 @@ returns-in-Rest-clause-due g c B R stands next =
     (on.due B R stands next)
 
 pub returns-in-Rest-clause-kind : goal.returns-in-Rest-clause-kind
-returns-in-Rest-clause-kind g c = noted-kind c.args.has_global (made.Replied c.of-in-Rest.result c.in-Rest.last false None Nothing) _ c.args.history.now c.push-in-Rest.new.self c.push-in-Rest.ensures (refl, refl, refl)
+returns-in-Rest-clause-kind g c =
+    subst (λ (o : Exchanged). IsEntryOf c.args.has_global o (latest c.push-in-Rest.new.self.past)) (sym c.without_command-in-Rest.ensures)
+    (noted-kind c.args.has_global (made.Replied c.of-in-Rest.result c.in-Rest.last false None Nothing) _ c.args.history.now c.push-in-Rest.new.self c.push-in-Rest.ensures (refl, refl, refl))
 
 pub returns-in-Rest-clause-counted : goal.returns-in-Rest-clause-counted
 returns-in-Rest-clause-counted g c =
@@ -121,7 +127,7 @@ returns-in-Bad-clause-noted g c =
 pub returns-in-Bad-clause-stands : goal.returns-in-Bad-clause-stands
 returns-in-Bad-clause-stands g c B R known stands fresh next =
     let on = subst (λ (o : Outcome). IsExchangedOn g.S.Store.put_cost c.args.card.now c.exchange.follows.lender-at-none c.args.c c.args.bytes.now c.args.block.now o) c.in-Bad.is (c.exchange.follows.holds-at-none.on c.requires.on) in
-    noted-stands c.exchange.follows.lender-at-none B R (Exchange c.args.c known c.args.bytes.now) _ (entry_by c.args.c c.args.block.now (state_of c.exchange.follows.lender-at-none).running (outcome.Bad c.in-Bad.sw)) c.args.history.now c.push-in-Bad.new.self _ _ c.push-in-Bad.ensures refl (λ j. Replied (sym c.of-in-Bad.ensures j) c.in-Bad.sw)
+    noted-stands c.exchange.follows.lender-at-none B R (Exchange c.args.c known c.args.bytes.now) _ (entry_by c.args.c c.args.block.now (state_of c.exchange.follows.lender-at-none).running (outcome.Bad c.in-Bad.sw)) c.args.history.now c.push-in-Bad.new.self _ _ c.push-in-Bad.ensures refl (ap (λ (b : List ℕ). Replied b c.in-Bad.sw) (sym c.of-in-Bad.ensures) ∙ ap (answer_made (epoch_at R c.args.c)) (sym c.without_command-in-Bad.ensures))
     (on.stands B R known stands fresh next)
 
 pub returns-in-Bad-clause-plan : goal.returns-in-Bad-clause-plan
@@ -137,7 +143,9 @@ returns-in-Bad-clause-due g c B R stands next =
     (on.due B R stands next)
 
 pub returns-in-Bad-clause-kind : goal.returns-in-Bad-clause-kind
-returns-in-Bad-clause-kind g c = noted-kind c.args.has_global (made.Replied c.of-in-Bad.result c.in-Bad.sw false None Nothing) _ c.args.history.now c.push-in-Bad.new.self c.push-in-Bad.ensures (refl, refl, refl)
+returns-in-Bad-clause-kind g c =
+    subst (λ (o : Exchanged). IsEntryOf c.args.has_global o (latest c.push-in-Bad.new.self.past)) (sym c.without_command-in-Bad.ensures)
+    (noted-kind c.args.has_global (made.Replied c.of-in-Bad.result c.in-Bad.sw false None Nothing) _ c.args.history.now c.push-in-Bad.new.self c.push-in-Bad.ensures (refl, refl, refl))
 
 pub returns-in-Bad-clause-counted : goal.returns-in-Bad-clause-counted
 returns-in-Bad-clause-counted g c =

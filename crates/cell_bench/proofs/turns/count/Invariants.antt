@@ -1,5 +1,5 @@
-use Rattle.std.proofs.Common.{◌≡◌, length}
 use Rattle.std.specs.Prelude.{min}
+use Rattle.std.proofs.Common.{◌≡◌, length}
 use Rattle.card_cell.specs.Cells.{history_of, turns_of}
 use Rattle.cell_bench.proofs.turns.count.Given as goal
 

@@ -1,5 +1,5 @@
-use Rattle.std.proofs.Common.{◌≡◌, ◌≤◌, take, map, length}
 use Rattle.std.specs.Prelude.{reverse}
+use Rattle.std.proofs.Common.{◌≡◌, ◌≤◌, take, map, length}
 use Rattle.client_api.specs.Held.{named_of}
 use Rattle.client_api.specs.Playing.{handle_named}
 use Rattle.client_api.proofs.prepare.held.Given as goal

@@ -1,7 +1,7 @@
 use Rattle.std.proofs.Common.{ℕ, ◌<◌, ◌∙◌, ap, sym, List, Option, Some, None, subst}
+use Rattle.card_acts.specs.Acts.{answer_of}
 use Rattle.client_api.specs.declared.state.State.{State}
 use Rattle.client_api.specs.Calls.{Handle, Admin}
-use Rattle.card_acts.specs.Acts.{answer_of}
 use Rattle.client_api.specs.Machine.{next}
 use Rattle.client_api.specs.Steps.{IsOn}
 use Rattle.client_api.specs.States.{going_of, admin_at, switch_of}

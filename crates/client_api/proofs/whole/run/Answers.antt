@@ -1,5 +1,5 @@
-use Rattle.std.proofs.Common.{◌≤◌, ◌<◌, ◌∙◌, ℕ, sym, refl, subst, arith}
 use Rattle.std.specs.Prelude.{IfSome}
+use Rattle.std.proofs.Common.{◌≤◌, ◌<◌, ◌∙◌, ℕ, sym, refl, subst, arith}
 use Rattle.client_api.specs.declared.call.Step.{Step}
 use Rattle.client_api.specs.Steps.{IsOn, GivesOn, Stepped}
 use Rattle.client_api.proofs.Going.{is_begun, goes_more, goes_done}

@@ -1,8 +1,8 @@
 use Rattle.std.proofs.Common.{◌≡◌, ◌≤◌, ℕ, []}
 use Rattle.client_api.specs.Calls.{Call, Replies}
 use Rattle.client_api.specs.Steps.{IsOn, left}
-use Rattle.client_api.proofs.Going.{IsWithin}
 use Rattle.client_api.specs.Steps.{IsAt}
+use Rattle.client_api.proofs.Going.{IsWithin}
 use Rattle.client_api.proofs.whole.run.Given as goal
 
 abbrev pub invariant-loop-answer : goal.invariant-loop-answer

@@ -1,5 +1,5 @@
-use Rattle.script_runs.proofs.Sharing.{shares_out}
 use Rattle.scene_readers.specs.SceneNames.{names_of}
+use Rattle.script_runs.proofs.Sharing.{shares_out}
 use Rattle.scene_runs.specs.CardRuns.{lines_of}
 use Rattle.piv_bench.proofs.laws.runs_share_out.Goals as goal
 

@@ -1,10 +1,10 @@
 use Rattle.std.proofs.Common.{◌≡◌, length, refl, sym, ap, subst, ◌∙◌}
 use Rattle.block_store.specs.Blocks.{block_form}
-use Rattle.cell_port.specs.Owned.{OwnerStandsFor, turns_at}
-use Rattle.cell_port.specs.OwnedLaws.{seen-recorded}
 use Rattle.client_api.specs.Ports.{records_of}
 use Rattle.script_runs.specs.Runs.{Scripts, log_of}
 use Rattle.script_runs.specs.Turns.{AllPlayable, HasTurns, all_turns}
+use Rattle.cell_port.specs.Owned.{OwnerStandsFor, turns_at}
+use Rattle.cell_port.specs.OwnedLaws.{seen-recorded}
 use Rattle.scene_runs.proofs.Lines.{all-playable}
 use Rattle.piv_bench.proofs.Ending.{enough-turns, on-ok, played-on, players-many}
 use Rattle.piv_bench.proofs.play.play_on.Goals as goal

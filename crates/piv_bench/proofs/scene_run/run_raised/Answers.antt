@@ -1,7 +1,7 @@
 use Rattle.std.proofs.Common.{◌++◌, map, refl, sym, ap, subst, ◌∙◌}
+use Rattle.card_cell.specs.Cells.{history_of}
 use Rattle.script_runs.specs.Progress.{answers_of}
 use Rattle.scene_cells.specs.Cells.{device_in}
-use Rattle.card_cell.specs.Cells.{history_of}
 use Rattle.scene_runs.proofs.Sizes.{sizes-front}
 use Rattle.scene_runs.proofs.Standing.{front-dropped, front-many, known}
 use Rattle.piv_bench.specs.Played.{AreLeftAsPlanned}

@@ -1,5 +1,5 @@
-use Rattle.std.proofs.Common.{ap, ◌∙◌}
 use Rattle.std.specs.Prelude.{take}
+use Rattle.std.proofs.Common.{ap, ◌∙◌}
 use Rattle.piv_ports.specs.Ports.{with_bytes}
 use Rattle.piv_cli.proofs.ServeLemmas.{first-ready, read-as}
 use Rattle.piv_cli.proofs.apdu.apdu.Goals as goal

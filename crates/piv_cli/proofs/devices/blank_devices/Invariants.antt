@@ -1,5 +1,5 @@
-use Rattle.std.proofs.Common.{◌≡◌, length}
 use Rattle.std.specs.List.{All}
+use Rattle.std.proofs.Common.{◌≡◌, length}
 use Rattle.nvm_device.specs.contracts.memory.MemNvmNvm.TheImpl.{ghosts}
 use Rattle.block_store.specs.Devices.{IsReady}
 use Rattle.piv_cli.proofs.devices.blank_devices.Given as goal

@@ -1,5 +1,5 @@
-use Rattle.std.proofs.Common.{◌≡◌, take}
 use Rattle.std.specs.Prelude.{filter}
+use Rattle.std.proofs.Common.{◌≡◌, take}
 use Rattle.piv_cli.specs.Lines.{counts}
 use Rattle.piv_cli.proofs.hexadecimal.copy_without_blanks.Given as goal
 

@@ -1,5 +1,5 @@
-use Rattle.std.proofs.Common.{◌≡◌, Bool, ap, sym, subst}
 use Rattle.std.specs.Prelude.{not}
+use Rattle.std.proofs.Common.{◌≡◌, Bool, ap, sym, subst}
 use Rattle.piv_cli.specs.Lines.{has_dash}
 use Rattle.piv_cli.proofs.DashLaws.{loses-none, loses-then}
 use Rattle.piv_cli.proofs.LineLemmas.{draws-few, so-far-begins, so-far-more, so-far-ends}

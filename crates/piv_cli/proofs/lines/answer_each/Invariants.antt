@@ -1,5 +1,5 @@
-use Rattle.std.proofs.Common.{◌≡◌, true, length}
 use Rattle.std.specs.Prelude.{not}
+use Rattle.std.proofs.Common.{◌≡◌, true, length}
 use Rattle.piv_model.specs.Base.{Base}
 use Rattle.card_app.specs.Stands.{IsAttached, store_state}
 use Rattle.piv_cli.specs.Lines.{has_dash, opened_first}

@@ -1,7 +1,7 @@
-use Rattle.std.proofs.Common.{◌++◌, ◌∷◌, [], List, ℕ, true, false, ap, sym, ◌∙◌}
 use Rattle.std.specs.Prelude.{not}
-use Rattle.hex.specs.Hex.{encode_upper}
+use Rattle.std.proofs.Common.{◌++◌, ◌∷◌, [], List, ℕ, true, false, ap, sym, ◌∙◌}
 use Rattle.std.proofs.lemmas.List.{append-nil}
+use Rattle.hex.specs.Hex.{encode_upper}
 use Rattle.piv_cli.specs.Lines.{Command, kept}
 use Rattle.piv_cli.proofs.LineLemmas.{empty-kept, empty-writes, command-line, line-answered}
 use Rattle.piv_cli.proofs.DashLaws.{line-no-dash, reply-no-dash}

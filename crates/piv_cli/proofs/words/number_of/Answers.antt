@@ -1,5 +1,5 @@
-use Rattle.std.proofs.Common.{◌≡◌, true, false, Ok, Err, ap, ◌∙◌, sym}
 use Rattle.std.specs.declared.num.ParseIntError.{ParseIntError}
+use Rattle.std.proofs.Common.{◌≡◌, true, false, Ok, Err, ap, ◌∙◌, sym}
 use Rattle.line_words.specs.Words.{is_plain}
 use Rattle.line_words.proofs.NumberLemmas.{number-parsed, number-not_plain}
 use Rattle.piv_cli.proofs.words.number_of.Goals as goal

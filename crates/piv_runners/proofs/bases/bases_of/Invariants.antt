@@ -1,5 +1,5 @@
-use Rattle.std.proofs.Common.{◌≡◌, ◌≤◌, length, take}
 use Rattle.std.specs.Prelude.{vec_capacity}
+use Rattle.std.proofs.Common.{◌≡◌, ◌≤◌, length, take}
 use Rattle.scene_cells.specs.Raised.{cell_bases}
 use Rattle.piv_runners.proofs.bases.bases_of.Given as goal
 

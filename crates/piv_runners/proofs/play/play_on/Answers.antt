@@ -1,7 +1,7 @@
 use Rattle.std.proofs.Common.{ℕ, List, [], length, sym, ap, subst, ◌∙◌}
-use Rattle.card_cell.specs.declared.base.CellBase.{CellBase}
 use Rattle.block_store.specs.Blocks.{block_form}
 use Rattle.client_api.specs.Players.{AreNamesOn}
+use Rattle.card_cell.specs.declared.base.CellBase.{CellBase}
 use Rattle.cell_port.specs.Owned.{HoldAll}
 use Rattle.scene_cells.specs.Turns.{scene_turns}
 use Rattle.scene_runs.proofs.Holding.{length-bases}

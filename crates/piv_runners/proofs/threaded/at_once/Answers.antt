@@ -1,5 +1,5 @@
-use Rattle.std.proofs.Common.{◌≡◌, ◌≤◌, ◌+◌, length, drop, map, ap, sym, subst, ◌∙◌, arith}
 use Rattle.std.specs.List.{All}
+use Rattle.std.proofs.Common.{◌≡◌, ◌≤◌, ◌+◌, length, drop, map, ap, sym, subst, ◌∙◌, arith}
 use Rattle.std.proofs.lemmas.List.Elements.{All-drop}
 use Rattle.scene_cells.specs.Cells.{device_in}
 use Rattle.scene_cells.specs.Turns.{scene_turns}

@@ -1,6 +1,6 @@
 use Rattle.std.proofs.Common.{[], ◌++◌, map, sym, ap, subst, ◌∙◌}
-use Rattle.card_cell.specs.Cells.{history_of}
 use Rattle.block_store.specs.Blocks.{block_form}
+use Rattle.card_cell.specs.Cells.{history_of}
 use Rattle.cell_port.specs.Owned.{HoldAll}
 use Rattle.scene_cells.specs.Cells.{device_in}
 use Rattle.scene_cells.specs.Raised.{cell_bases}

@@ -1,5 +1,5 @@
-use Rattle.std.proofs.Common.{◌≡◌, ◌≤◌, ◌+◌, List, ◌++◌, map, length}
 use Rattle.std.specs.Prelude.{All, vec_len, vec_capacity}
+use Rattle.std.proofs.Common.{◌≡◌, ◌≤◌, ◌+◌, List, ◌++◌, map, length}
 use Rattle.block_store.specs.Blocks.{block_form}
 use Rattle.card_cell.specs.Cells.{history_of}
 use Rattle.card_cell.specs.Holds.{IsHeld}

@@ -1,5 +1,5 @@
-use Rattle.std.proofs.Common.{◌≡◌, ◌≤◌, ◌<◌, ◌∙◌, length, drop, sym, ap, subst}
 use Rattle.std.specs.Prelude.{vec_len}
+use Rattle.std.proofs.Common.{◌≡◌, ◌≤◌, ◌<◌, ◌∙◌, length, drop, sym, ap, subst}
 use Rattle.scene_cells.specs.Cells.{device_in}
 use Rattle.scene_cells.proofs.Placing.{AreSoFar, end-of, first-taken, grown, ready-at, step-back, step-more}
 use Rattle.scene_cells.proofs.raising.raise.Goals as goal

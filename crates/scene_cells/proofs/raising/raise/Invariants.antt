@@ -1,5 +1,5 @@
-use Rattle.std.proofs.Common.{◌≡◌, ◌≤◌, [], drop, length}
 use Rattle.std.specs.Prelude.{vec_len, vec_capacity}
+use Rattle.std.proofs.Common.{◌≡◌, ◌≤◌, [], drop, length}
 use Rattle.scene_cells.specs.Cells.{device_in}
 use Rattle.scene_cells.proofs.Placing.{AreSoFar}
 use Rattle.scene_cells.proofs.raising.raise.Given as goal

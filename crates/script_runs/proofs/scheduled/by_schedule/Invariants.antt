@@ -1,5 +1,5 @@
-use Rattle.std.proofs.Common.{◌≡◌, ℕ, ◌≤◌, List, length, take, ◌++◌}
 use Rattle.std.specs.Prelude.{reverse}
+use Rattle.std.proofs.Common.{◌≡◌, ℕ, ◌≤◌, List, length, take, ◌++◌}
 use Rattle.script_line.specs.declared.line.Line.{Line}
 use Rattle.script_runs.specs.Runs.{Run}
 use Rattle.script_runs.specs.Progress.{AllReady, GoesOn, PortAt, StandFor}

@@ -1,5 +1,5 @@
-use Rattle.std.proofs.Common.{◌++◌, []}
 use Rattle.std.specs.Prelude.{reverse}
+use Rattle.std.proofs.Common.{◌++◌, []}
 use Rattle.script_runs.specs.Progress.{scripts_of}
 use Rattle.script_runs.proofs.Rounds.{begins, ready_begun, port_begins}
 use Rattle.script_runs.proofs.Whole.{whole}

@@ -1,5 +1,5 @@
-use Rattle.std.proofs.Common.{◌≡◌, ◌∙◌, ◌++◌, length, Ok, sym, ap, subst, Bool, arith}
 use Rattle.std.specs.Bool.{OnFalse}
+use Rattle.std.proofs.Common.{◌≡◌, ◌∙◌, ◌++◌, length, Ok, sym, ap, subst, Bool, arith}
 use Rattle.script_runs.specs.Progress.{all_left, EndedBelow, PortAt}
 use Rattle.script_runs.specs.Runs.{round as round_of}
 use Rattle.script_runs.proofs.Rounds.{round_more, round_less, round_whole, falls_more, falls_less, same_length}

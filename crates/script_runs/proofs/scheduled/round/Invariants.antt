@@ -1,5 +1,5 @@
-use Rattle.std.proofs.Common.{◌≡◌, ℕ, ◌≤◌, ◌<◌, List, length}
 use Rattle.std.specs.Bool.{OnTrue}
+use Rattle.std.proofs.Common.{◌≡◌, ℕ, ◌≤◌, ◌<◌, List, length}
 use Rattle.script_line.specs.declared.line.Line.{Line}
 use Rattle.script_runs.specs.Runs.{Run}
 use Rattle.script_runs.specs.Progress.{all_left, AllReady, PortAt, StandFor}

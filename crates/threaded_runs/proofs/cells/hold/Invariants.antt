@@ -1,5 +1,5 @@
-use Rattle.std.proofs.Common.{◌≡◌, ◌≤◌, ◌+◌, ◌++◌, length, map, vec_len}
 use Rattle.std.specs.Prelude.{reverse, vec_capacity}
+use Rattle.std.proofs.Common.{◌≡◌, ◌≤◌, ◌+◌, ◌++◌, length, map, vec_len}
 use Rattle.client_threads.specs.Held.{cell_of}
 use Rattle.threaded_runs.proofs.cells.hold.Given as goal
 

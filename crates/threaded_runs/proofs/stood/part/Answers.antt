@@ -1,8 +1,8 @@
 use Rattle.std.proofs.Common.{◌≡◌, [], ◌∷◌, false, refl, arith, Vec, Global}
 use Rattle.std.proofs.lemmas.List.Elements.{All-nil, All-cons, All-append}
 use Rattle.piv_model.specs.declared.answers.ApiAnswer.{ApiAnswer}
-use Rattle.threaded_runs.specs.declared.worker.Worker.{Worker}
 use Rattle.client_threads.specs.Passes.{CellPass}
+use Rattle.threaded_runs.specs.declared.worker.Worker.{Worker}
 use Rattle.threaded_runs.proofs.Mapped.{mapped_more}
 use Rattle.threaded_runs.proofs.stood.part.Goals as goal
 

@@ -1,5 +1,5 @@
-use Rattle.std.proofs.Common.{◌≡◌, ◌≤◌, false, All, length, map}
 use Rattle.std.specs.Prelude.{vec_capacity}
+use Rattle.std.proofs.Common.{◌≡◌, ◌≤◌, false, All, length, map}
 use Rattle.threaded_runs.proofs.stood.part.Given as goal
 
 abbrev pub invariant-loop-worker : goal.invariant-loop-worker

@@ -1,10 +1,10 @@
 use Rattle.std.proofs.Common.{◌≡◌, ◌∙◌, ℕ, false, List, [], ◌++◌, length, map, take, drop, replicate, All, sym, ap, subst, arith, Vec, Global}
 use Rattle.std.proofs.lemmas.List.{length-map, length-replicate}
-use Rattle.piv_model.specs.declared.answers.ApiAnswer.{ApiAnswer}
 use Rattle.turnstile.specs.Known.{first_pass, split_off}
 use Rattle.turnstile_rows.specs.Rows.{ArePassesOf, AreRowsOf, HaveOut, with_out}
 use Rattle.turnstile_rows.specs.Gathered.{AreGathered}
 use Rattle.turnstile_rows.proofs.Rows.{have_out}
+use Rattle.piv_model.specs.declared.answers.ApiAnswer.{ApiAnswer}
 use Rattle.client_api.specs.Players.{Played}
 use Rattle.client_threads.specs.Passes.{CellGate, CellPass, StandsOwn}
 use Rattle.threaded_runs.specs.declared.worker.Worker.{Worker}

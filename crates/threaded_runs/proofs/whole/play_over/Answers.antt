@@ -1,10 +1,10 @@
 use Rattle.std.proofs.Common.{List, map, sym, subst, Vec, Global}
-use Rattle.piv_model.specs.declared.answers.ApiAnswer.{ApiAnswer}
 use Rattle.turnstile.specs.Known.{first_pass}
 use Rattle.turnstile_rows.specs.Rows.{ArePassesOf, AreFirst, HaveOut, bases_of}
+use Rattle.piv_model.specs.declared.answers.ApiAnswer.{ApiAnswer}
 use Rattle.card_cell.specs.declared.cell.CardCell.{CardCell}
-use Rattle.client_threads.specs.Passes.{CellGate, CellPass}
 use Rattle.script_runs.specs.Progress.{scripts_of}
+use Rattle.client_threads.specs.Passes.{CellGate, CellPass}
 use Rattle.threaded_runs.specs.Shared.{AreShared}
 use Rattle.threaded_runs.specs.AtOnce.{HasRun, StillHold}
 use Rattle.threaded_runs.proofs.Dealt.{firsts_own, firsts_first, firsts_out}

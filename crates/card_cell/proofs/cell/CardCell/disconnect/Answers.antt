@@ -1,5 +1,5 @@
-use Rattle.std.proofs.Common.{◌≡◌, ◌≤◌, ◌+◌, ℕ, List, None, rules, refl, sym, ap, subst, arith, length, find}
 use Rattle.std.specs.Prelude.{IsSome}
+use Rattle.std.proofs.Common.{◌≡◌, ◌≤◌, ◌+◌, ℕ, List, None, rules, refl, sym, ap, subst, arith, length, find}
 use Rattle.piv_model.specs.declared.history.Refusal.TheVariants as why
 use Rattle.piv_model.specs.Stores.{StoreState}
 use Rattle.piv_model.specs.Entries.{Past, Closed}

@@ -1,5 +1,5 @@
-use Rattle.std.proofs.Common.{sym, ap, ◌∙◌}
 use Rattle.std.specs.Prelude.{option_map}
+use Rattle.std.proofs.Common.{sym, ap, ◌∙◌}
 use Rattle.piv_model.specs.Base.{profile}
 use Rattle.piv_model.specs.Commands.{command_of}
 use Rattle.card_cell.specs.Counts.{comparison_running}

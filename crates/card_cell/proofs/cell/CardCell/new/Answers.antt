@@ -1,5 +1,5 @@
-use Rattle.std.proofs.Common.{◌≡◌, ℕ, List, refl, sym, ap, subst, ◌∙◌}
 use Rattle.std.specs.Prelude.{IfSome, Option}
+use Rattle.std.proofs.Common.{◌≡◌, ℕ, List, refl, sym, ap, subst, ◌∙◌}
 use Rattle.piv_model.specs.declared.kinds.RefId.TheVariants.{GlobalPin}
 use Rattle.piv_model.specs.Memory.{Memory, has}
 use Rattle.piv_model.specs.Sound.{IsSound}

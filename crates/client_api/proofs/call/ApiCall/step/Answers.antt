@@ -1,7 +1,7 @@
-use Rattle.std.proofs.Common.{◌≡◌, ◌∙◌, ◌<◌, sym, ap, subst, refl, Option}
 use Rattle.std.specs.Prelude.{IsSome}
-use Rattle.client_api.specs.Calls.{Asked}
+use Rattle.std.proofs.Common.{◌≡◌, ◌∙◌, ◌<◌, sym, ap, subst, refl, Option}
 use Rattle.card_acts.specs.Acts.{answer_of}
+use Rattle.client_api.specs.Calls.{Asked}
 use Rattle.client_api.specs.Machine.{Going, Over, is_ended}
 use Rattle.client_api.specs.Steps.{IsOn, HandsBack, given_at, left}
 use Rattle.client_api.specs.States.{going_of, IsSound}

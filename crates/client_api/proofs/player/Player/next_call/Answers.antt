@@ -1,5 +1,5 @@
-use Rattle.std.proofs.Common.{◌∙◌, ◌+◌, ◌<◌, map, sym, refl, ap, subst}
 use Rattle.std.specs.Prelude.{reverse, slice_get}
+use Rattle.std.proofs.Common.{◌∙◌, ◌+◌, ◌<◌, map, sym, refl, ap, subst}
 use Rattle.client_api.specs.Held.{named_of}
 use Rattle.client_api.specs.Steps.{left}
 use Rattle.client_api.specs.Players.{Played, IsPlaying, AreHandlesOn, steps_later, steps_left}

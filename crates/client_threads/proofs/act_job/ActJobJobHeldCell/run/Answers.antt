@@ -1,5 +1,5 @@
-use Rattle.std.proofs.Common.{List, subst}
 use Rattle.std.specs.Prelude.{reverse}
+use Rattle.std.proofs.Common.{List, subst}
 use Rattle.piv_rules.specs.Acts.{CardAct, CardRecord}
 use Rattle.card_acts.specs.Acts.{answer_of}
 use Rattle.card_cell.specs.Cells as cells

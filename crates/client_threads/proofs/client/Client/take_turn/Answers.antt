@@ -1,6 +1,6 @@
-use Rattle.std.proofs.Common.{◌≡◌, ◌∙◌, List, set, refl, ap, subst, arith}
 use Rattle.std.specs.Prelude.{IfSome, slice_index_or}
 use Rattle.std.specs.List.{slice_get}
+use Rattle.std.proofs.Common.{◌≡◌, ◌∙◌, List, set, refl, ap, subst, arith}
 use Rattle.turnstile_rows.proofs.Lists.{read_at}
 use Rattle.turnstile_rows.proofs.Passes.{passes_set}
 use Rattle.piv_rules.specs.Acts.{CardAct}
