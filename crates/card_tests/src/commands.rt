@@ -1,5 +1,5 @@
 // The commands of the card, over the store in memory.
-ghost use Rattle.std.specs.Prelude.{◌≡◌, ◌≤◌, IsTrue, IfOk};
+ghost use Rattle.std.specs.Prelude.{◌≡◌, IsTrue, IfOk};
 ghost use Rattle.power_loss.specs.Due.{RisesFrom};
 ghost use Rattle.power_loss.specs.Plans.{write_numbers};
 ghost use Rattle.piv_model.specs.Starts.{SpellsMemory};
@@ -11,7 +11,7 @@ use piv_model::Interface::{Contact, Contactless};
 use piv_model::{Command, Interface, NoMemory, Start, Store, plain_start};
 use std::alloc::Global;
 use std::test::Fail;
-use test_starts::{global_start, limited_start, small_start};
+use test_starts::{global_start, limited_start};
 
 // The plain card's first random block: the beginning of the key stream of ChaCha20 for a key, a nonce and a counter of zeros.
 const BLOCK: [u8; 16] = [
@@ -19,7 +19,7 @@ const BLOCK: [u8; 16] = [
 ];
 
 // A command or an answer of the rows, which has a name or is hexadecimal text.
-fn spelled(word: &str) -> &str {
+pub(crate) fn spelled(word: &str) -> &str {
     match word {
         "select" => "00A404000BA00000030800001000010000",
         "template" => "61114F0600001000010079074F05A0000003089000",
@@ -27,6 +27,19 @@ fn spelled(word: &str) -> &str {
         "login" => "0020008008313233343536FFFF",
         "wrong" => "0020008008393939393939FFFF",
         "query" => "00200080",
+        "global_login" => "0020000008393837363534FFFF",
+        "global_wrong" => "0020000008393939393939FFFF",
+        "global_query" => "00200000",
+        // What the commands that store another value store.
+        "login_by_new" => "0020008008363534333231FFFF",
+        "global_login_by_new" => "0020000008303132333435FFFF",
+        "change" => "0024008010313233343536FFFF363534333231FFFF",
+        "wrong_change" => "0024008010393939393939FFFF363534333231FFFF",
+        "global_change" => "0024000010393837363534FFFF303132333435FFFF",
+        "wrong_global_change" => "0024000010393939393939FFFF303132333435FFFF",
+        "wrong_change_of_puk" => "0024008110303030303030303038373635343332FF",
+        "unblock" => "002C0080103132333435363738363534333231FFFF",
+        "wrong_unblock" => "002C0080103030303030303030363534333231FFFF",
         "challenge" => "0087089B047C02810000",
         "challenged" => "7C12811076B8E0ADA0F13D90405D6AE55386BD289000",
         // The challenge enciphered under the card management key, as OpenSSL enciphers it.
@@ -41,10 +54,10 @@ fn spelled(word: &str) -> &str {
 
 // A card with one connection. A command that loses power is answered what is then said of it, and the power is on again.
 #[derive(Drop)]
-struct Card<S: Store> {
+pub(crate) struct Card<S: Store> {
     store: S,
     conn: Conn,
-    out: Pieces,
+    pub(crate) out: Pieces,
     interface: Interface,
     draws: u64,
     ghost on: { IsTrue (S.state store).power.on },
@@ -61,7 +74,7 @@ fn on_again<S: Store>(store: &mut S, is_on: bool)
 }
 
 impl<S: Store> Card<S> {
-    fn send(&mut self, alloc: Global, apdu: &str) -> Result<String, Fail> {
+    pub(crate) fn send(&mut self, alloc: Global, apdu: &str) -> Result<String, Fail> {
         let bytes = hex::decode(alloc, apdu).or(Err("no hexadecimal text"))?;
         let header = bytes.get(..4).ok_or("no header")?;
         let size = usize::from(bytes.get(4).copied().unwrap_or(0));
@@ -74,7 +87,7 @@ impl<S: Store> Card<S> {
         self.run(alloc, command)
     }
 
-    fn run(&mut self, alloc: Global, command: Command<'_>) -> Result<String, Fail> {
+    pub(crate) fn run(&mut self, alloc: Global, command: Command<'_>) -> Result<String, Fail> {
         self.out.clear();
         let done = execute(
             command,
@@ -106,7 +119,11 @@ impl<S: Store> Card<S> {
     }
 }
 
-fn card_of(alloc: Global, start: &Start, losses: &[Loss]) -> Result<Card<MemoryStore>, Fail>
+pub(crate) fn card_of(
+    alloc: Global,
+    start: &Start,
+    losses: &[Loss],
+) -> Result<Card<MemoryStore>, Fail>
     requires spells { SpellsMemory start.now }
     requires rises { RisesFrom 0 (write_numbers losses.now) }
 {
@@ -119,18 +136,22 @@ fn card_of(alloc: Global, start: &Start, losses: &[Loss]) -> Result<Card<MemoryS
     })
 }
 
-fn plain_card(alloc: Global) -> Result<Card<MemoryStore>, Fail> {
+pub(crate) fn plain_card(alloc: Global) -> Result<Card<MemoryStore>, Fail> {
     card_of(alloc, &plain_start(alloc)?, &[])
 }
 
 // The plain card, whose store loses power in this write, counted from 1.
-fn losing_card(alloc: Global, write: u64, how: Leaves) -> Result<Card<MemoryStore>, Fail> {
+pub(crate) fn losing_card(
+    alloc: Global,
+    write: u64,
+    how: Leaves,
+) -> Result<Card<MemoryStore>, Fail> {
     let write = write.max(1);
     card_of(alloc, &plain_start(alloc)?, &[Loss { write, how }])
 }
 
 // Each row is a command and its answer.
-fn expect<S: Store>(alloc: Global, card: &mut Card<S>, rows: &str) -> Result<(), Fail> {
+pub(crate) fn expect<S: Store>(alloc: Global, card: &mut Card<S>, rows: &str) -> Result<(), Fail> {
     for row in rows.lines() {
         if let Some((apdu, want)) = row.trim().split_once(' ') {
             if apdu != "#" {
@@ -305,59 +326,6 @@ fn objects_are_put_and_removed_by_an_administrator(rt: HostRuntime) -> Result<()
     expect(alloc, &mut card, rows)
 }
 
-// A value of so many bytes for the printed information, with its elements.
-fn put_of(alloc: Global, size: usize) -> Result<Vec<u8>, Fail>
-    requires { size ≤ 65535 }
-{
-    let mut body = Vec::new(alloc);
-    body.extend_from_slice(&[0x5C, 0x03, 0x5F, 0xC1, 0x09, 0x53, 0x82])?;
-    body.extend_from_slice(&(size as u16).to_be_bytes())?;
-    body.resize(9 + size, 0xA5)?;
-    Ok(body)
-}
-
-fn put<S: Store>(card: &mut Card<S>, alloc: Global, size: usize) -> Result<String, Fail>
-    requires { size ≤ 65535 }
-{
-    let body = put_of(alloc, size)?;
-    let command = Command {
-        ins: 0xDB,
-        p1: 0x3F,
-        p2: 0xFF,
-        body: body.as_slice(),
-    };
-    card.run(alloc, command)
-}
-
-#[test]
-fn a_put_needs_room(rt: HostRuntime) -> Result<(), Fail> {
-    let alloc = rt.alloc();
-    let administrator = "
-        select template
-        challenge challenged
-        response 9000
-    ";
-    // The objects of the small card take three blocks of its five.
-    let mut small = card_of(alloc, &small_start(alloc)?, &[])?;
-    assert_eq!(rt; put(&mut small, alloc, 256)?.as_str(), "6D00");
-    expect(alloc, &mut small, "select template")?;
-    assert_eq!(rt; put(&mut small, alloc, 256)?.as_str(), "6982");
-    expect(alloc, &mut small, administrator)?;
-    assert_eq!(rt; put(&mut small, alloc, 256)?.as_str(), "6A84");
-    let mut plain = plain_card(alloc)?;
-    expect(alloc, &mut plain, administrator)?;
-    assert_eq!(rt; put(&mut plain, alloc, 16_385)?.as_str(), "6A84");
-    assert_eq!(rt; put(&mut plain, alloc, 16_384)?.as_str(), "9000");
-    let rows = "
-        login 9000
-    ";
-    expect(alloc, &mut plain, rows)?;
-    let got = plain.send(alloc, spelled("printed"))?;
-    assert!(rt; got.as_str().starts_with("53824000A5A5"));
-    assert_eq!(rt; plain.out.waiting(), 16_388 - 256);
-    Ok(())
-}
-
 // A tag, an unknown reference, a bad form and so on, each with what stands before and behind it in the order of refusals.
 #[test]
 fn the_first_rule_that_fails_decides(rt: HostRuntime) -> Result<(), Fail> {
@@ -474,6 +442,127 @@ fn a_global_pin_counts_where_the_discovery_object_says_so(rt: HostRuntime) -> Re
 }
 
 #[test]
+fn a_change_with_a_wrong_old_value_changes_nothing_but_a_counter_and_a_login(
+    rt: HostRuntime,
+) -> Result<(), Fail> {
+    let alloc = rt.alloc();
+    let mut card = card_of(alloc, &global_start(alloc, 3)?, &[])?;
+    let rows = "
+        select template
+        login 9000
+        global_login 9000
+        wrong_change 63C2
+        query 63C2
+        printed 6982
+        global_query 9000
+        # The new value isn't stored, and the old one is right as before.
+        login_by_new 63C1
+        login 9000
+        wrong_global_change 63C2
+        global_query 63C2
+        query 9000
+        printed information
+        global_login_by_new 63C1
+        global_login 9000
+        global_query 9000
+        wrong_change_of_puk 63C2
+        query 9000
+        global_query 9000
+        # The PUK that wasn't stored is wrong, and the old one is right.
+        002C00801038373635343332FF363534333231FFFF 63C1
+        login_by_new 63C2
+        login 9000
+        002C0080103132333435363738313233343536FFFF 9000
+        wrong_change_of_puk 63C2
+        # The tries that changes spend are those of every comparison.
+        wrong_change 63C2
+        wrong 63C1
+        wrong_change 63C0
+        change 6983
+        login 6983
+        query 63C0
+        global_query 9000
+    ";
+    expect(alloc, &mut card, rows)
+}
+
+#[test]
+fn a_card_without_a_global_pin_has_no_such_reference(rt: HostRuntime) -> Result<(), Fail> {
+    let alloc = rt.alloc();
+    let mut card = plain_card(alloc)?;
+    // P1 comes before the reference, and the data and the interface behind it.
+    let rows = "
+        00200100 6A86
+        00240100 6A86
+        global_query 6A88
+        global_login 6A88
+        global_wrong 6A88
+        00200000053132333435 6A88
+        0020FF00 6A88
+        global_change 6A88
+        wrong_global_change 6A88
+        00240000 6A88
+        002C0000103132333435363738363534333231FFFF 6A88
+        002C0000 6A88
+    ";
+    expect(alloc, &mut card, "select template\nlogin 9000")?;
+    expect(alloc, &mut card, rows)?;
+    expect(alloc, &mut card, "query 9000\n0020FF80 9000\nquery 63C3")?;
+    card.interface = Contactless;
+    expect(alloc, &mut card, rows)
+}
+
+#[test]
+fn a_global_pin_is_compared_as_a_pin_and_never_unblocked(rt: HostRuntime) -> Result<(), Fail> {
+    let alloc = rt.alloc();
+    let mut card = card_of(alloc, &global_start(alloc, 3)?, &[])?;
+    let rows = "
+        select template
+        00200000083132333435FFFFFF 6A80
+        0024000010393837363534FFFF3031323334FFFFFF 6A80
+        0024000010393837363534FFFF30313233343541FF 6A80
+        00240000 6A80
+        00240100 6A86
+        global_query 63C3
+        # The other policy of a card with a Global PIN, and three that no card has.
+        challenge challenged
+        response 9000
+        00DB3FFF147E124F0BA0000003080000100001005F2F026000 6A80
+        00DB3FFF147E124F0BA0000003080000100001005F2F026030 6A80
+        00DB3FFF147E124F0BA0000003080000100001005F2F024010 6A80
+        00DB3FFF147E124F0BA0000003080000100001005F2F026020 9000
+        printed 6982
+        global_login 9000
+        printed information
+        global_wrong 63C2
+        printed 6982
+        global_wrong 63C1
+        wrong_global_change 63C0
+        global_query 63C0
+        global_login 6983
+        global_change 6983
+        query 63C3
+        # What the PUK unblocks is the PIN.
+        unblock 9000
+        global_query 63C0
+        global_login 6983
+        login_by_new 9000
+        printed information
+    ";
+    expect(alloc, &mut card, rows)?;
+    card.interface = Contactless;
+    let rows = "
+        global_query 6982
+        global_login 6982
+        global_change 6982
+        0020FF00 6982
+        00200000083132333435FFFFFF 6A80
+        printed 6982
+    ";
+    expect(alloc, &mut card, rows)
+}
+
+#[test]
 fn a_counter_has_one_to_fifteen_tries(rt: HostRuntime) -> Result<(), Fail> {
     let alloc = rt.alloc();
     let mut one = card_of(alloc, &limited_start(alloc, 1)?, &[])?;
@@ -495,82 +584,6 @@ fn a_counter_has_one_to_fifteen_tries(rt: HostRuntime) -> Result<(), Fail> {
         query 63CF
     ";
     expect(alloc, &mut fifteen, rows)
-}
-
-// A comparison spends a try in its first two writes, and fills the counter in the next two. Each row is a command, the
-// first of the two writes, whether the new memory is left, what is said, the tries left, and the answer to the old PIN.
-#[test]
-fn what_is_said_of_a_lost_command_is_what_its_memory_shows(rt: HostRuntime) -> Result<(), Fail> {
-    let alloc = rt.alloc();
-    let change = "0024008010313233343536FFFF363534333231FFFF";
-    let same = "0024008010313233343536FFFF313233343536FFFF";
-    let unblocking = "002C0080103132333435363738363534333231FFFF";
-    let wrong_unblocking = "002C0080103030303030303030363534333231FFFF";
-    let change_of_puk = "002400811031323334353637383837363534333231";
-    let (old, new) = (Leaves::Old, Leaves::New);
-    for (command, first, leaves, said, left, login) in [
-        ("wrong", 1, old, "Nothing", "63C3", "9000"),
-        ("wrong", 1, new, "Spent", "63C2", "9000"),
-        ("login", 1, old, "Nothing", "63C3", "9000"),
-        ("login", 1, new, "Spent", "63C2", "9000"),
-        ("login", 3, old, "Spent", "63C2", "9000"),
-        ("login", 3, new, "Nothing", "63C3", "9000"),
-        (change, 1, old, "Nothing", "63C3", "9000"),
-        (change, 1, new, "Spent", "63C2", "9000"),
-        (change, 3, old, "Spent", "63C2", "9000"),
-        (change, 3, new, "Done", "63C3", "63C2"),
-        (same, 3, old, "Spent", "63C2", "9000"),
-        (same, 3, new, "Nothing", "63C3", "9000"),
-        (change_of_puk, 1, old, "Nothing", "63C3", "9000"),
-        (change_of_puk, 1, new, "Spent", "63C3", "9000"),
-        (change_of_puk, 3, old, "Spent", "63C3", "9000"),
-        (change_of_puk, 3, new, "Done", "63C3", "9000"),
-        (wrong_unblocking, 1, old, "Nothing", "63C3", "9000"),
-        (wrong_unblocking, 1, new, "Spent", "63C3", "9000"),
-        (unblocking, 3, old, "Spent", "63C3", "9000"),
-        (unblocking, 3, new, "Done", "63C3", "63C2"),
-    ] {
-        for later in 0..2 {
-            let write = u64::saturating_add(first, later);
-            let mut card = losing_card(alloc, write, leaves)?;
-            expect(alloc, &mut card, "select template")?;
-            let lost = card.send(alloc, spelled(command))?;
-            assert_eq!(rt; lost.as_str(), said, "{command}, {write}");
-            expect(alloc, &mut card, "login 6D00\nselect template")?;
-            let tries = card.send(alloc, spelled("query"))?;
-            assert_eq!(rt; tries.as_str(), left, "{command}, {write}");
-            let answer = card.send(alloc, spelled("login"))?;
-            assert_eq!(rt; answer.as_str(), login, "{command}, {write}");
-        }
-    }
-    Ok(())
-}
-
-// A put of one block has three writes.
-#[test]
-fn a_lost_put_leaves_the_old_or_the_new_value(rt: HostRuntime) -> Result<(), Fail> {
-    let alloc = rt.alloc();
-    let another = "00DB3FFF0B5C035FC10253043E01FE00";
-    let same = "00DB3FFF0B5C035FC10253043E00FE00";
-    let (old, new) = ("53043E00FE009000", "53043E01FE009000");
-    for (command, leaves, said, value) in [
-        (another, Leaves::Old, "Nothing", old),
-        (another, Leaves::New, "Done", new),
-        (same, Leaves::Old, "Nothing", old),
-        (same, Leaves::New, "Nothing", old),
-    ] {
-        for write in 1..4 {
-            let mut card = losing_card(alloc, write, leaves)?;
-            let rows = "select template\nchallenge challenged\nresponse 9000";
-            expect(alloc, &mut card, rows)?;
-            let lost = card.send(alloc, command)?;
-            assert_eq!(rt; lost.as_str(), said, "{command}, {write}");
-            expect(alloc, &mut card, "select template")?;
-            let got = card.send(alloc, spelled("chuid"))?;
-            assert_eq!(rt; got.as_str(), value, "{command}, {write}");
-        }
-    }
-    Ok(())
 }
 
 #[test]
